@@ -1,34 +1,38 @@
 /* congee.h: an ordered map from uint64_t to uint64_t, in an adaptive radix tree. C11 and C++11. MIT license.
  *
- * A map has pairs of a key and a value, each key once, in the order of the keys. Each call reads one path of at most eight
- * nodes, unless its comment names another cost. What a removal frees is kept for later insertions, until the map is empty.
+ * A map has pairs of a key and a value, each key once, in the order of the keys. Each call reads one path of at most
+ * eight nodes, unless its comment names another cost. A node that a removal empties is kept for later insertions. Once
+ * three quarters of the held memory are free, a removal moves the nodes into less memory. For threads there are
+ * congee_live.h and congee_shared.h, which this header includes.
  *
- * What the library's own functions return, and what the map is afterwards, is proved of their code. They are the exports
- * (congee_exports.h), whose names begin with congee_c_. The functions for use are plain C around them, and are tested. So
- * the theorem holds for a program that keeps the rules below. Nothing checks them.
+ * What the library's own functions return, and what the map is afterwards, is proved of their code. They are the
+ * exports (congee_exports.h), whose names begin with congee_c_. The functions for use are plain C around the exports,
+ * and are tested. Tested, and not proved, are also the costs and the use of memory that a comment names. The theorem
+ * holds for a program that keeps the rules below. Nothing checks these rules.
  *
  *   - A map is used from when it was made or thawed until it is freed or frozen. A reader is used from when it was made
- *     until it is freed or thawed. Nobody reads, copies or changes what these point to.
- *   - One call at a time uses a map, and one a reader, reads included. Different maps may be in calls at once, and so may
- *     different readers, also those of one frozen map. A const map is one that the call leaves as it is. It isn't one that
- *     two threads may read at once. For a map that threads share there is congee_shared.h, which this header includes.
+ *     until it is freed or thawed. The program doesn't read, copy or change what these pointers point to.
+ *   - One call at a time uses a map, and one call a reader, calls that read included. Different maps may be in calls at
+ *     once, and so may different readers, also of one frozen map. A const map is a map that the call leaves unchanged.
+ *     Two threads may not read a const map at once.
  *   - A map or a reader goes to another thread by a lock, by the start or the join of a thread, or by a sequentially
  *     consistent atomic.
- *   - A place for a value or a pair (value, old, found, pair) is null, where it isn't wanted, or aligned, and nothing else
- *     uses it during the call. The place of a new map or reader isn't null.
- *   - The buffer of a range is an array of at least n pairs, which nothing else uses during the call. Where n is 0 it may
- *     be null. The code only writes to it. The theorem is of buffers that are initialised.
+ *   - A place for a value or a pair (value, old, found, pair) is null, if the caller doesn't want it, or aligned, and
+ *     nothing else uses the place during the call. The place of a new map or reader isn't null.
+ *   - The buffer of a range is an array of at least n pairs, which nothing else uses during the call. For n == 0 the
+ *     buffer may be null. The call only writes to the buffer. The proof assumes that the buffer was initialised.
  *   - No call is made in a signal handler, or in the forked child of a process with threads.
- *   - There is stack for a call, which goes some eight levels deep and takes a few kilobytes.
+ *   - The stack has room for a call, which goes some eight levels deep and takes a few kilobytes.
  *   - malloc, realloc and free, which the library calls, are of one allocator and align blocks as C asks.
- *   - The names that begin with congee_c_ or rattle_ are the archive's, and this header is of the same version
+ *   - Names that begin with congee_c_ or rattle_ are the archive's, and this header is of the archive's version
  *     (CONGEE_VERSION == congee_version()).
  *
- * A call fails with CONGEE_OOM if malloc finds no memory or the map's limit is reached. Then nothing has changed: not the
- * map, its charge or the places. errno carries no information about it. A place is written only in the cases that a
- * function's comment lists.
+ * A call fails with CONGEE_OOM if malloc finds no memory or the map's limit is reached. Then nothing has changed: not
+ * the map, its charge or the places. The call leaves no information in errno. A place is written only in the cases that
+ * a function's comment lists.
  *
- * tools/dev/make-pages makes the manual page from this file: from this comment, the headings and each function's comment.
+ * tools/dev/make-pages makes the manual page from this file: from this comment, the headings and each function's
+ * comment.
  */
 #ifndef CONGEE_H
 #define CONGEE_H
@@ -49,19 +53,20 @@ extern "C" {
 #define CONGEE_VERSION_PATCH 0
 #define CONGEE_VERSION (CONGEE_VERSION_MAJOR * 10000 + CONGEE_VERSION_MINOR * 100 + CONGEE_VERSION_PATCH)
 
-/* What the calls of all three headers return. A function's comment names the codes that it may return.
- *
- * It was done, where no key is asked for. */
+/* The codes that calls of all three headers return. A function's comment names the codes that it may return. Calls that
+ * insert return CONGEE_ABSENT for a new key, since the key was absent before the call. */
+
+/* The call is done. Calls return this code that make or clear something, or write a number to a place. */
 #define CONGEE_DONE 0
-/* The key was absent, or there is no such pair. */
+/* The key was absent, or the map has no such pair. */
 #define CONGEE_ABSENT 0
-/* The key was present, or there is such a pair. */
+/* The key was present, or the map has such a pair. */
 #define CONGEE_PRESENT 1
-/* The key has another value than the expected one. */
+/* The key has another value than the expected value. */
 #define CONGEE_OTHER 2
 /* malloc finds no memory, or the map's limit is reached. */
 #define CONGEE_OOM (-1)
-/* Other threads came in between at each of its tries (congee_shared.h, congee_live.h). */
+/* Other threads were in the way at each of the call's tries (congee_live.h, congee_shared.h). */
 #define CONGEE_BUSY (-2)
 
 /* A map. */
@@ -78,20 +83,20 @@ struct congee_pair {
 
 /* -- Version -- */
 
-/* The version of the archive, by the same numbers as CONGEE_VERSION: 100 for 0.1.0. */
+/* Returns the version of the archive as a number: 100 for 0.1.0. CONGEE_VERSION is the number of the header. */
 static inline uint32_t congee_version(void) {
     return congee_c_version();
 }
 
 /* -- Maps -- */
 
-/* Makes an empty map whose nodes may take so many bytes by their stated sizes: 64, 168, 672 or 2104 bytes for a node of up to
- * 4, 16, 48 or 256 entries. The first node is of the largest size, so a smaller limit fails. Returns CONGEE_DONE with the
- * map in *out, or CONGEE_OOM with null there.
+/* Makes an empty map whose nodes take at most `bytes` bytes together by their stated sizes. Returns CONGEE_DONE with
+ * the map in *out, or CONGEE_OOM with null there. The sizes are 64, 168, 672 or 2104 bytes for nodes of up to 4, 16, 48
+ * and 256 entries. The first node has the largest size, so a limit below 2104 fails.
  *
- * The limit bounds these sizes, not the memory that malloc lends: with a million random keys 88 bytes a key are charged,
- * and 144 lent. When a node grows, the larger one is charged while the smaller still is. So a map near its limit may
- * fail at a key that would fit afterwards. */
+ * The limit bounds the stated sizes, not the memory that malloc lends. With a million random keys 88 bytes a key are
+ * charged, and 129 lent. When a node grows, the larger node is charged while the smaller one still is. So a map near
+ * its limit may refuse a key that would fit afterwards. */
 static inline int congee_new_with_limit(struct congee **out, uint64_t bytes) {
     struct congee_handle made = {NULL};
     int code = congee_c_new(bytes, &made);
@@ -99,12 +104,13 @@ static inline int congee_new_with_limit(struct congee **out, uint64_t bytes) {
     return code;
 }
 
-/* Makes an empty map. Returns CONGEE_DONE with the map in *out, or CONGEE_OOM with null there. */
+/* Makes an empty map without a limit. Returns CONGEE_DONE with the map in *out, or CONGEE_OOM with null there if malloc
+ * finds no memory. */
 static inline int congee_new(struct congee **out) {
     return congee_new_with_limit(out, UINT64_MAX);
 }
 
-/* Frees all memory of the map: each node once. For null it does nothing. */
+/* Frees all memory of the map, each node once. For null the call does nothing. */
 static inline void congee_free(struct congee *map) {
     struct congee_handle handle = {map};
     if (map)
@@ -113,7 +119,8 @@ static inline void congee_free(struct congee *map) {
 
 /* -- One key -- */
 
-/* Looks the key up. Returns CONGEE_PRESENT with the value in *value, or CONGEE_ABSENT. Takes no memory. */
+/* Looks the key up. Returns CONGEE_PRESENT with the key's value in *value, or CONGEE_ABSENT, which leaves *value
+ * unchanged. The call takes no memory. */
 static inline int congee_get(const struct congee *map, uint64_t key, uint64_t *value) {
     struct congee_const_handle handle = {map};
     uint64_t it = 0;
@@ -124,9 +131,9 @@ static inline int congee_get(const struct congee *map, uint64_t key, uint64_t *v
     return 1;
 }
 
-/* Sets the key's value. Returns CONGEE_ABSENT for a new key, and *old is unchanged. Returns CONGEE_PRESENT for a
- * present key, with its previous value in *old. Returns CONGEE_OOM only for a new key that needs a node of its own or
- * a larger one. */
+/* Sets the key's value. Returns CONGEE_ABSENT for a new key, which leaves *old unchanged. Returns CONGEE_PRESENT for a
+ * present key, with the previous value in *old. Returns CONGEE_OOM, with nothing changed, only for a new key that needs
+ * a new node or a larger one. */
 static inline int congee_insert(struct congee *map, uint64_t key, uint64_t value, uint64_t *old) {
     struct congee_handle handle = {map};
     uint64_t it = 0;
@@ -138,9 +145,9 @@ static inline int congee_insert(struct congee *map, uint64_t key, uint64_t value
     return 1;
 }
 
-/* Removes the key. Returns CONGEE_PRESENT with its value in *old. Returns CONGEE_ABSENT if the key is absent, and
- * *old is unchanged. Never fails: nodes that are empty then are freed, and one that has few entries left gets a
- * smaller form if there is memory for that. */
+/* Removes the key. Returns CONGEE_PRESENT with the removed value in *old, or CONGEE_ABSENT, which leaves *old
+ * unchanged. A removal never fails. Empty nodes are freed, and a node with few entries left gets a smaller form if
+ * there is memory for one. */
 static inline int congee_remove(struct congee *map, uint64_t key, uint64_t *old) {
     struct congee_handle handle = {map};
     uint64_t it = 0;
@@ -151,9 +158,10 @@ static inline int congee_remove(struct congee *map, uint64_t key, uint64_t *old)
     return 1;
 }
 
-/* Replaces the key's value by `desired` if it is `expected`, and returns CONGEE_PRESENT. If it is another, returns
- * CONGEE_OTHER with that value in *found. If the key is absent, returns CONGEE_ABSENT. After these two the map is
- * unchanged. Takes no memory. */
+/* Replaces the key's value by `desired` if the value is `expected`. Returns CONGEE_PRESENT after the exchange,
+ * CONGEE_ABSENT if the key is absent, and CONGEE_OTHER if the key has a value that isn't `expected`. *found gets that
+ * value with CONGEE_OTHER, and is unchanged with all other codes. Without CONGEE_PRESENT the map is unchanged. The call
+ * takes no memory. */
 static inline int congee_compare_exchange(struct congee *map, uint64_t key, uint64_t expected, uint64_t desired,
                                           uint64_t *found) {
     struct congee_handle handle = {map};
@@ -166,9 +174,9 @@ static inline int congee_compare_exchange(struct congee *map, uint64_t key, uint
     return 2;
 }
 
-/* Removes the key if its value is `expected`, and returns CONGEE_PRESENT. If it is another, returns CONGEE_OTHER with
- * that value in *found. If the key is absent, returns CONGEE_ABSENT. After these two the map is unchanged. Never
- * fails. */
+/* Removes the key if the key's value is `expected`. Returns CONGEE_PRESENT after the removal, CONGEE_ABSENT if the key
+ * is absent, and CONGEE_OTHER if the key has a value that isn't `expected`. *found gets that value with CONGEE_OTHER,
+ * and is unchanged with all other codes. Without CONGEE_PRESENT the map is unchanged. The call never fails. */
 static inline int congee_compare_remove(struct congee *map, uint64_t key, uint64_t expected, uint64_t *found) {
     struct congee_handle handle = {map};
     uint64_t it = 0;
@@ -180,10 +188,10 @@ static inline int congee_compare_remove(struct congee *map, uint64_t key, uint64
     return 2;
 }
 
-/* Adds the number to the key's value. A new key gets the number as its value. The sum is modulo 2^64: it wraps, and
- * doesn't fail. Returns CONGEE_ABSENT for a new key, and *old is unchanged. Returns CONGEE_PRESENT for a present key,
- * with the value before the addition in *old. Returns CONGEE_OOM only for a new key that needs a node of its own or a
- * larger one. To subtract, add -(uint64_t)number. */
+/* Adds `number` to the key's value, modulo 2^64, so a sum past UINT64_MAX wraps. A new key gets `number` as value. To
+ * subtract, add -(uint64_t)number. Returns CONGEE_ABSENT for a new key, which leaves *old unchanged. Returns
+ * CONGEE_PRESENT for a present key, with the value before the addition in *old. Returns CONGEE_OOM, with nothing
+ * changed, only for a new key that needs a new node or a larger one. */
 static inline int congee_add(struct congee *map, uint64_t key, uint64_t number, uint64_t *old) {
     struct congee_handle handle = {map};
     uint64_t it = 0;
@@ -195,9 +203,9 @@ static inline int congee_add(struct congee *map, uint64_t key, uint64_t number, 
     return 1;
 }
 
-/* Gives the key the value if it is absent, and keeps the value of a present key. Returns CONGEE_ABSENT for a new key,
- * and *found is unchanged. Returns CONGEE_PRESENT with the present value in *found. Returns CONGEE_OOM only for a new
- * key that needs a node of its own or a larger one. */
+/* Inserts the value if the key is absent, and keeps the value of a present key. Returns CONGEE_ABSENT for a new key,
+ * which leaves *found unchanged. Returns CONGEE_PRESENT for a present key, with the present value in *found. Returns
+ * CONGEE_OOM, with nothing changed, only for a new key that needs a new node or a larger one. */
 static inline int congee_get_or_insert(struct congee *map, uint64_t key, uint64_t value, uint64_t *found) {
     struct congee_handle handle = {map};
     uint64_t it = 0;
@@ -211,25 +219,30 @@ static inline int congee_get_or_insert(struct congee *map, uint64_t key, uint64_
 
 /* -- Ranges -- */
 
-/* Writes the first pairs with start <= key < end to the buffer, keys ascending, n at most, and returns how many. The rest
- * of the buffer is unchanged. UINT64_MAX is in no such range: see congee_range_inclusive. To go on, begin at the last key
- * plus 1. Takes no memory. It reads the nodes that hold these pairs and two paths, whatever else the map has. */
+/* Writes the first pairs with start <= key < end to the buffer, keys ascending, n pairs at most, and returns the number
+ * of written pairs. The rest of the buffer is unchanged. UINT64_MAX is in no such range: congee_range_inclusive has a
+ * last key. A full buffer is continued by a call that begins at the buffer's last key plus 1. The call takes no memory,
+ * and reads the nodes that hold the written pairs and two paths. */
 static inline size_t congee_range(const struct congee *map, uint64_t start, uint64_t end, struct congee_pair *buffer,
                                   size_t n) {
     struct congee_const_handle handle = {map};
     return n == 0 ? 0 : congee_c_range(&handle, start, end, buffer, n);
 }
 
-/* Writes the first pairs with start <= key <= last to the buffer, keys ascending, as congee_range. So UINT64_MAX may be the
- * last key. To go on, begin at the last key read plus 1, unless that key is `last`. */
+/* Writes the first pairs with start <= key <= last to the buffer, keys ascending, n pairs at most, and returns the
+ * number of written pairs. The rest of the buffer is unchanged. UINT64_MAX may be the last key. A full buffer is
+ * continued by a call that begins at the buffer's last key plus 1, unless that key is `last`. The call takes no memory,
+ * and reads the nodes that hold the written pairs and two paths. */
 static inline size_t congee_range_inclusive(const struct congee *map, uint64_t start, uint64_t last,
                                             struct congee_pair *buffer, size_t n) {
     struct congee_const_handle handle = {map};
     return n == 0 ? 0 : congee_c_range_inclusive(&handle, start, last, buffer, n);
 }
 
-/* The same with keys descending: writes the last pairs with start <= key <= last, the greatest key first. Reads what
- * congee_range does for these pairs. To go on, end at the last key read minus 1, unless that key is `start`. */
+/* Writes the last pairs with start <= key <= last to the buffer, keys descending, n pairs at most, and returns the
+ * number of written pairs. The rest of the buffer is unchanged. UINT64_MAX may be the last key. A full buffer is
+ * continued by a call that ends at the buffer's last key minus 1, unless that key is `start`. The call takes no memory,
+ * and reads the nodes that hold the written pairs and two paths. */
 static inline size_t congee_range_descending(const struct congee *map, uint64_t start, uint64_t last,
                                              struct congee_pair *buffer, size_t n) {
     struct congee_const_handle handle = {map};
@@ -238,8 +251,8 @@ static inline size_t congee_range_descending(const struct congee *map, uint64_t 
 
 /* -- Ends and neighbours -- */
 
-/* Writes the pair with the least key to *pair and returns CONGEE_PRESENT, or returns CONGEE_ABSENT for an empty map.
- * Takes no memory. */
+/* Finds the pair with the least key. Returns CONGEE_PRESENT with the pair in *pair, or CONGEE_ABSENT for an empty map,
+ * which leaves *pair unchanged. The call takes no memory. */
 static inline int congee_first(const struct congee *map, struct congee_pair *pair) {
     struct congee_const_handle handle = {map};
     struct congee_pair it = {0, 0};
@@ -250,8 +263,8 @@ static inline int congee_first(const struct congee *map, struct congee_pair *pai
     return 1;
 }
 
-/* Writes the pair with the greatest key to *pair and returns CONGEE_PRESENT, or returns CONGEE_ABSENT for an empty
- * map. Takes no memory. */
+/* Finds the pair with the greatest key. Returns CONGEE_PRESENT with the pair in *pair, or CONGEE_ABSENT for an empty
+ * map, which leaves *pair unchanged. The call takes no memory. */
 static inline int congee_last(const struct congee *map, struct congee_pair *pair) {
     struct congee_const_handle handle = {map};
     struct congee_pair it = {0, 0};
@@ -262,8 +275,9 @@ static inline int congee_last(const struct congee *map, struct congee_pair *pair
     return 1;
 }
 
-/* Writes the pair with the greatest key <= this one to *pair and returns CONGEE_PRESENT, or returns CONGEE_ABSENT
- * where there is none. Takes no memory. Reads the key's path, and at most one more. */
+/* Finds the pair with the greatest key that is at most `key`. Returns CONGEE_PRESENT with the pair in *pair, or
+ * CONGEE_ABSENT if the map has no such pair, which leaves *pair unchanged. The call takes no memory. The call reads the
+ * key's path, and at most one more. */
 static inline int congee_floor(const struct congee *map, uint64_t key, struct congee_pair *pair) {
     struct congee_const_handle handle = {map};
     struct congee_pair it = {0, 0};
@@ -274,8 +288,9 @@ static inline int congee_floor(const struct congee *map, uint64_t key, struct co
     return 1;
 }
 
-/* Writes the pair with the least key >= this one to *pair and returns CONGEE_PRESENT, or returns CONGEE_ABSENT where
- * there is none. Takes no memory. Reads the key's path, and at most one more. */
+/* Finds the pair with the least key that is at least `key`. Returns CONGEE_PRESENT with the pair in *pair, or
+ * CONGEE_ABSENT if the map has no such pair, which leaves *pair unchanged. The call takes no memory. The call reads the
+ * key's path, and at most one more. */
 static inline int congee_ceiling(const struct congee *map, uint64_t key, struct congee_pair *pair) {
     struct congee_const_handle handle = {map};
     struct congee_pair it = {0, 0};
@@ -286,8 +301,9 @@ static inline int congee_ceiling(const struct congee *map, uint64_t key, struct 
     return 1;
 }
 
-/* Writes the pair with the greatest key < this one to *pair and returns CONGEE_PRESENT, or returns CONGEE_ABSENT
- * where there is none. Takes no memory. Reads the key's path, and at most one more. */
+/* Finds the pair with the greatest key below `key`. Returns CONGEE_PRESENT with the pair in *pair, or CONGEE_ABSENT if
+ * the map has no such pair, which leaves *pair unchanged. The call takes no memory. The call reads the key's path, and
+ * at most one more. */
 static inline int congee_below(const struct congee *map, uint64_t key, struct congee_pair *pair) {
     struct congee_const_handle handle = {map};
     struct congee_pair it = {0, 0};
@@ -298,8 +314,9 @@ static inline int congee_below(const struct congee *map, uint64_t key, struct co
     return 1;
 }
 
-/* Writes the pair with the least key > this one to *pair and returns CONGEE_PRESENT, or returns CONGEE_ABSENT where
- * there is none. Takes no memory. Reads the key's path, and at most one more. */
+/* Finds the pair with the least key above `key`. Returns CONGEE_PRESENT with the pair in *pair, or CONGEE_ABSENT if the
+ * map has no such pair, which leaves *pair unchanged. The call takes no memory. The call reads the key's path, and at
+ * most one more. */
 static inline int congee_above(const struct congee *map, uint64_t key, struct congee_pair *pair) {
     struct congee_const_handle handle = {map};
     struct congee_pair it = {0, 0};
@@ -310,8 +327,8 @@ static inline int congee_above(const struct congee *map, uint64_t key, struct co
     return 1;
 }
 
-/* Removes the pair with the least key, writes it to *pair and returns CONGEE_PRESENT, or returns CONGEE_ABSENT for an
- * empty map. Never fails. */
+/* Removes the pair with the least key. Returns CONGEE_PRESENT with the removed pair in *pair, or CONGEE_ABSENT for an
+ * empty map, which leaves *pair unchanged. A pop never fails. */
 static inline int congee_pop_first(struct congee *map, struct congee_pair *pair) {
     struct congee_handle handle = {map};
     struct congee_pair it = {0, 0};
@@ -322,8 +339,8 @@ static inline int congee_pop_first(struct congee *map, struct congee_pair *pair)
     return 1;
 }
 
-/* Removes the pair with the greatest key, writes it to *pair and returns CONGEE_PRESENT, or returns CONGEE_ABSENT for
- * an empty map. Never fails. */
+/* Removes the pair with the greatest key. Returns CONGEE_PRESENT with the removed pair in *pair, or CONGEE_ABSENT for
+ * an empty map, which leaves *pair unchanged. A pop never fails. */
 static inline int congee_pop_last(struct congee *map, struct congee_pair *pair) {
     struct congee_handle handle = {map};
     struct congee_pair it = {0, 0};
@@ -336,30 +353,37 @@ static inline int congee_pop_last(struct congee *map, struct congee_pair *pair) 
 
 /* -- Many pairs -- */
 
-/* What congee_each calls. It returns 0 to go on. */
+/* How many pairs congee_each and congee_frozen_each read at once: at first, and then. */
+enum { CONGEE_FIRST_PAGE = 16, CONGEE_PAGE = 256 };
+
+/* A function that congee_each calls with each pair. It returns 0 to go on. */
 typedef int congee_visitor(struct congee_pair pair, void *with);
 
-/* Calls f(pair, with) for each pair with start <= key <= last, keys ascending, until a call returns something else than 0.
- * Returns what the last call returned, or 0 where there is no pair. Reads pages of 64 pairs. So f may change the map: it
- * is called with the pairs of a page as they were when that page was read. Takes no memory. */
+/* Calls f(pair, with) for each pair with start <= key <= last, keys ascending, until a call returns something else than
+ * 0. Returns what the last call of f returned, or 0 without a call. The pairs are read in pages: 16 pairs, then 256 each. So f may change
+ * the map, and is called with a page's pairs as they were when the page was read. The call takes no memory. */
 static inline int congee_each(const struct congee *map, uint64_t start, uint64_t last, congee_visitor *f, void *with) {
-    struct congee_pair page[64] = {{0, 0}};
-    size_t n;
-    while ((n = congee_range_inclusive(map, start, last, page, 64)) > 0) {
+    struct congee_pair page[CONGEE_PAGE];
+    size_t room = CONGEE_FIRST_PAGE, ready = 0, n;
+    for (;;) {
+        for (; ready < room; ready++)
+            page[ready].key = page[ready].value = 0;
+        n = congee_range_inclusive(map, start, last, page, room);
         for (size_t i = 0; i < n; i++) {
             int code = f(page[i], with);
             if (code != 0)
                 return code;
         }
-        if (n < 64 || page[63].key == last)
+        if (n < room || page[n - 1].key == last)
             return 0;
-        start = page[63].key + 1;
+        start = page[n - 1].key + 1;
+        room = CONGEE_PAGE;
     }
-    return 0;
 }
 
-/* Inserts n pairs in their order, each as congee_insert, so of two with one key the later one counts. Returns how many it
- * inserted: n, or fewer where the next one failed. Those before it are in the map. */
+/* Inserts n pairs in their order, by a call of congee_insert for each, so of two pairs with one key the later value
+ * remains. Returns how many pairs were inserted: n, or fewer if the next insertion was out of memory. The pairs before
+ * that one are in the map. */
 static inline size_t congee_insert_many(struct congee *map, const struct congee_pair *pairs, size_t n) {
     size_t done = 0;
     while (done < n && congee_insert(map, pairs[done].key, pairs[done].value, NULL) != CONGEE_OOM)
@@ -367,22 +391,23 @@ static inline size_t congee_insert_many(struct congee *map, const struct congee_
     return done;
 }
 
-/* Removes all pairs, and never fails. Its memory goes back to malloc. It frees node by node where malloc has 2104 bytes for a
- * new root, which aren't charged. Else it reads one path for each pair. */
+/* Removes all pairs, and returns their memory to malloc. The call never fails. If malloc has 2104 bytes for a new root,
+ * which aren't charged, the call frees the map node by node. Otherwise it reads one path for each pair. */
 static inline void congee_clear(struct congee *map) {
     struct congee_handle handle = {map};
     congee_c_clear(&handle);
 }
 
-/* Gives memory back to malloc that is held for nodes that are gone: moves those that are left into a smaller table, unless
- * malloc has no memory for that. A removal does it where three quarters of a table are free. Pairs and charge stay. Never
- * fails. Its cost is that of reading each node once. */
+/* Returns memory to malloc that is held for removed nodes, by a move of the remaining nodes into a smaller table. A
+ * removal does the same once three quarters of a table are free. Without memory for the smaller table the call changes
+ * nothing. Pairs and charge stay the same, and the call never fails. The cost is that of reading each node once. */
 static inline void congee_shrink_to_fit(struct congee *map) {
     struct congee_handle handle = {map};
     congee_c_shrink_to_fit(&handle);
 }
 
-/* Removes the pairs with start <= key <= last, and returns how many. Reads two paths for each leaf among them. Never fails. */
+/* Removes the pairs with start <= key <= last, and returns how many pairs were removed, which saturates at UINT64_MAX.
+ * The call reads two paths for each leaf of the range, and never fails. */
 static inline uint64_t congee_remove_range_inclusive(struct congee *map, uint64_t start, uint64_t last) {
     struct congee_handle handle = {map};
     return congee_c_remove_range_inclusive(&handle, start, last);
@@ -390,25 +415,26 @@ static inline uint64_t congee_remove_range_inclusive(struct congee *map, uint64_
 
 /* -- Counts -- */
 
-/* Whether there is no pair, in constant time. */
+/* Returns whether the map has no pair, in constant time. */
 static inline bool congee_is_empty(const struct congee *map) {
     struct congee_const_handle handle = {map};
     return congee_c_is_empty(&handle);
 }
 
-/* How many pairs there are, in constant time. */
+/* Returns how many pairs the map has, in constant time. The number saturates at UINT64_MAX. */
 static inline uint64_t congee_count(const struct congee *map) {
     struct congee_const_handle handle = {map};
     return congee_c_count(&handle);
 }
 
-/* The sum in bytes of the stated sizes of the map's nodes, in constant time: 2104 for an empty map. */
+/* Returns the sum in bytes of the stated sizes of the map's nodes, in constant time: 2104 for an empty map. */
 static inline uint64_t congee_charged(const struct congee *map) {
     struct congee_const_handle handle = {map};
     return congee_c_charged(&handle);
 }
 
-/* The limit in bytes that the map was made with, UINT64_MAX for none, in constant time. No more is charged. */
+/* Returns the limit in bytes that the map was made with, or UINT64_MAX for a map without a limit, in constant time. The
+ * charged bytes are at most the limit. */
 static inline uint64_t congee_limit(const struct congee *map) {
     struct congee_const_handle handle = {map};
     return congee_c_limit(&handle);
@@ -416,9 +442,9 @@ static inline uint64_t congee_limit(const struct congee *map) {
 
 /* -- Readers on several threads -- */
 
-/* Freezes a map: from here on nobody changes it, and threads may look keys up at once, each by a reader of its own.
- * Returns CONGEE_DONE with the first reader in *out and null in *map. Or returns CONGEE_OOM with null in *out, and
- * *map is as it was. Takes two small blocks beside the map's nodes, which stay where they are. */
+/* Freezes a map: nobody changes it from then on, and threads may look keys up at once, each by a reader of its own.
+ * Returns CONGEE_DONE with the first reader in *out and null in *map. Returns CONGEE_OOM with null in *out and *map as
+ * it was. The call takes two small blocks, and leaves the map's nodes where they are. */
 static inline int congee_freeze(struct congee **map, struct congee_frozen **out) {
     struct congee_handle handle = {*map}, back = {NULL};
     struct congee_frozen_handle made = {NULL};
@@ -428,8 +454,8 @@ static inline int congee_freeze(struct congee **map, struct congee_frozen **out)
     return code;
 }
 
-/* Makes one more reader of a frozen map, for another thread. Returns CONGEE_DONE with the reader in *out, or
- * CONGEE_OOM with null there. Takes a small block. */
+/* Makes one more reader of a frozen map, for another thread. Returns CONGEE_DONE with the reader in *out, or CONGEE_OOM
+ * with null there. A reader takes a small block. */
 static inline int congee_frozen_another(const struct congee_frozen *frozen, struct congee_frozen **out) {
     struct congee_const_frozen_handle handle = {frozen};
     struct congee_frozen_handle made = {NULL};
@@ -438,8 +464,8 @@ static inline int congee_frozen_another(const struct congee_frozen *frozen, stru
     return code;
 }
 
-/* Makes the map changeable again where this is its last reader. Returns 1 with the map in *out and null in *frozen. Where
- * there are other readers it returns 0 with null in *out, and *frozen is as it was. Takes no memory. */
+/* Makes a frozen map changeable again, by its last reader. Returns 1 with the map in *out and null in *frozen. If the
+ * map has further readers, returns 0 with null in *out and *frozen as it was. The call takes no memory. */
 static inline int congee_thaw(struct congee_frozen **frozen, struct congee **out) {
     struct congee_frozen_handle handle = {*frozen}, back = {NULL};
     struct congee_handle made = {NULL};
@@ -449,14 +475,15 @@ static inline int congee_thaw(struct congee_frozen **frozen, struct congee **out
     return code;
 }
 
-/* Frees the reader, and the map's memory with its last reader. For null it does nothing. */
+/* Frees the reader, and the map's memory with its last reader. For null the call does nothing. */
 static inline void congee_frozen_free(struct congee_frozen *frozen) {
     struct congee_frozen_handle handle = {frozen};
     if (frozen)
         congee_c_frozen_free(handle);
 }
 
-/* Looks the key up, as congee_get: returns CONGEE_PRESENT with the value in *value, or CONGEE_ABSENT. */
+/* Looks the key up in a frozen map. Returns CONGEE_PRESENT with the key's value in *value, or CONGEE_ABSENT, which
+ * leaves *value unchanged. The call takes no memory. */
 static inline int congee_frozen_get(const struct congee_frozen *frozen, uint64_t key, uint64_t *value) {
     struct congee_const_frozen_handle handle = {frozen};
     uint64_t it = 0;
@@ -467,46 +494,62 @@ static inline int congee_frozen_get(const struct congee_frozen *frozen, uint64_t
     return 1;
 }
 
-/* Writes the first pairs with start <= key < end to the buffer, as congee_range. */
+/* Writes the first pairs with start <= key < end to the buffer, keys ascending, n pairs at most, and returns the number
+ * of written pairs. The rest of the buffer is unchanged. UINT64_MAX is in no such range: congee_frozen_range_inclusive
+ * has a last key. A full buffer is continued by a call that begins at the buffer's last key plus 1. The call takes no
+ * memory, and reads the nodes that hold the written pairs and two paths. */
 static inline size_t congee_frozen_range(const struct congee_frozen *frozen, uint64_t start, uint64_t end,
                                          struct congee_pair *buffer, size_t n) {
     struct congee_const_frozen_handle handle = {frozen};
     return n == 0 ? 0 : congee_c_frozen_range(&handle, start, end, buffer, n);
 }
 
-/* Writes the first pairs with start <= key <= last to the buffer, as congee_range_inclusive. */
+/* Writes the first pairs with start <= key <= last to the buffer, keys ascending, n pairs at most, and returns the
+ * number of written pairs. The rest of the buffer is unchanged. UINT64_MAX may be the last key. A full buffer is
+ * continued by a call that begins at the buffer's last key plus 1, unless that key is `last`. The call takes no memory,
+ * and reads the nodes that hold the written pairs and two paths. */
 static inline size_t congee_frozen_range_inclusive(const struct congee_frozen *frozen, uint64_t start, uint64_t last,
                                                    struct congee_pair *buffer, size_t n) {
     struct congee_const_frozen_handle handle = {frozen};
     return n == 0 ? 0 : congee_c_frozen_range_inclusive(&handle, start, last, buffer, n);
 }
 
-/* The same with keys descending, as congee_range_descending. */
+/* Writes the last pairs with start <= key <= last to the buffer, keys descending, n pairs at most, and returns the
+ * number of written pairs. The rest of the buffer is unchanged. UINT64_MAX may be the last key. A full buffer is
+ * continued by a call that ends at the buffer's last key minus 1, unless that key is `start`. The call takes no memory,
+ * and reads the nodes that hold the written pairs and two paths. */
 static inline size_t congee_frozen_range_descending(const struct congee_frozen *frozen, uint64_t start, uint64_t last,
                                                     struct congee_pair *buffer, size_t n) {
     struct congee_const_frozen_handle handle = {frozen};
     return n == 0 ? 0 : congee_c_frozen_range_descending(&handle, start, last, buffer, n);
 }
 
-/* Calls f for each pair with start <= key <= last, as congee_each. */
+/* Calls f(pair, with) for each pair with start <= key <= last, keys ascending, until a call returns something else than
+ * 0. Returns what the last call of f returned, or 0 without a call. The pairs are read in pages: 16 pairs, then 256 each. The call takes
+ * no memory. */
 static inline int congee_frozen_each(const struct congee_frozen *frozen, uint64_t start, uint64_t last, congee_visitor *f,
                                      void *with) {
-    struct congee_pair page[64] = {{0, 0}};
-    size_t n;
-    while ((n = congee_frozen_range_inclusive(frozen, start, last, page, 64)) > 0) {
+    struct congee_pair page[CONGEE_PAGE];
+    size_t room = CONGEE_FIRST_PAGE, ready = 0, n;
+    for (;;) {
+        for (; ready < room; ready++)
+            page[ready].key = page[ready].value = 0;
+        n = congee_frozen_range_inclusive(frozen, start, last, page, room);
         for (size_t i = 0; i < n; i++) {
             int code = f(page[i], with);
             if (code != 0)
                 return code;
         }
-        if (n < 64 || page[63].key == last)
+        if (n < room || page[n - 1].key == last)
             return 0;
-        start = page[63].key + 1;
+        start = page[n - 1].key + 1;
+        room = CONGEE_PAGE;
     }
-    return 0;
 }
 
-/* As congee_ceiling. This one and the next five are ranges of one pair. */
+/* Finds the pair with the least key that is at least `key`, by a range of one pair. Returns CONGEE_PRESENT with the
+ * pair in *pair, or CONGEE_ABSENT if the map has no such pair, which leaves *pair unchanged. The call takes no memory.
+ */
 static inline int congee_frozen_ceiling(const struct congee_frozen *frozen, uint64_t key, struct congee_pair *pair) {
     struct congee_pair it = {0, 0};
     if (congee_frozen_range_inclusive(frozen, key, UINT64_MAX, &it, 1) == 0)
@@ -516,7 +559,9 @@ static inline int congee_frozen_ceiling(const struct congee_frozen *frozen, uint
     return 1;
 }
 
-/* As congee_floor. */
+/* Finds the pair with the greatest key that is at most `key`, by a range of one pair. Returns CONGEE_PRESENT with the
+ * pair in *pair, or CONGEE_ABSENT if the map has no such pair, which leaves *pair unchanged. The call takes no memory.
+ */
 static inline int congee_frozen_floor(const struct congee_frozen *frozen, uint64_t key, struct congee_pair *pair) {
     struct congee_pair it = {0, 0};
     if (congee_frozen_range_descending(frozen, 0, key, &it, 1) == 0)
@@ -526,27 +571,31 @@ static inline int congee_frozen_floor(const struct congee_frozen *frozen, uint64
     return 1;
 }
 
-/* As congee_above. */
+/* Finds the pair with the least key above `key`, by a range of one pair. Returns CONGEE_PRESENT with the pair in *pair,
+ * or CONGEE_ABSENT if the map has no such pair, which leaves *pair unchanged. The call takes no memory. */
 static inline int congee_frozen_above(const struct congee_frozen *frozen, uint64_t key, struct congee_pair *pair) {
     return key == UINT64_MAX ? 0 : congee_frozen_ceiling(frozen, key + 1, pair);
 }
 
-/* As congee_below. */
+/* Finds the pair with the greatest key below `key`, by a range of one pair. Returns CONGEE_PRESENT with the pair in
+ * *pair, or CONGEE_ABSENT if the map has no such pair, which leaves *pair unchanged. The call takes no memory. */
 static inline int congee_frozen_below(const struct congee_frozen *frozen, uint64_t key, struct congee_pair *pair) {
     return key == 0 ? 0 : congee_frozen_floor(frozen, key - 1, pair);
 }
 
-/* As congee_first. */
+/* Finds the pair with the least key, by a range of one pair. Returns CONGEE_PRESENT with the pair in *pair, or
+ * CONGEE_ABSENT for an empty map, which leaves *pair unchanged. The call takes no memory. */
 static inline int congee_frozen_first(const struct congee_frozen *frozen, struct congee_pair *pair) {
     return congee_frozen_ceiling(frozen, 0, pair);
 }
 
-/* As congee_last. */
+/* Finds the pair with the greatest key, by a range of one pair. Returns CONGEE_PRESENT with the pair in *pair, or
+ * CONGEE_ABSENT for an empty map, which leaves *pair unchanged. The call takes no memory. */
 static inline int congee_frozen_last(const struct congee_frozen *frozen, struct congee_pair *pair) {
     return congee_frozen_floor(frozen, UINT64_MAX, pair);
 }
 
-/* How many pairs there are, in constant time. */
+/* Returns how many pairs the frozen map has, in constant time. The number saturates at UINT64_MAX. */
 static inline uint64_t congee_frozen_count(const struct congee_frozen *frozen) {
     struct congee_const_frozen_handle handle = {frozen};
     return congee_c_frozen_count(&handle);

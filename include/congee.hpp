@@ -1,16 +1,19 @@
 /* congee.hpp: the maps of congee.h as C++ classes, C++17. MIT license.
  *
- *   congee_cpp::map         a map that one thread has. It has the calls of std::map<std::uint64_t, std::uint64_t>, but
- *                           returns values and lends none
- *   congee_cpp::live_map    a map that threads share, whose look-ups take no lock: an object for each thread
- *   congee_cpp::shared_map  a map that threads share under a lock, or in 64 shards: an object for each thread
+ *   - congee_cpp::map: a map for one thread. The calls are those of std::map<std::uint64_t, std::uint64_t>, but return values
+ *     and no references.
+ *   - congee_cpp::live_map: a map that threads share and read without a lock, by an object for each thread.
+ *   - congee_cpp::shared_map: a map that threads share under one lock or in 64 shards, by an object for each thread.
  *
- * The rules of congee.h hold. Here they are: an object is in one call at a time, calls that read included. So no two threads
- * may call one const map either. An object goes to another thread by a lock, or by the thread's start or join.
+ * What the library's own functions return is proved (congee.h). The classes are C++ around the functions of the headers in C,
+ * and are tested.
  *
- * Where there is no memory, or the limit is reached, a call throws std::bad_alloc, and nothing has changed. A call whose
- * name begins with try_ returns CONGEE_OOM in its place, and is noexcept. Without exceptions (-fno-exceptions) the others
- * end the program by std::abort. */
+ * The rules of congee.h hold. An object is in one call at a time, calls that read included. So two threads may not call one
+ * const map at once. An object goes to another thread by a lock, or by the thread's start or join.
+ *
+ * If malloc finds no memory or the limit is reached, a call throws std::bad_alloc, and no pair has changed. In programs
+ * without exceptions (-fno-exceptions) the call ends the program by std::abort. try_new and try_insert_or_assign don't
+ * throw: without memory the first returns none, and the second CONGEE_OOM. */
 #ifndef CONGEE_HPP
 #define CONGEE_HPP
 
@@ -34,7 +37,7 @@ using pair = std::pair<std::uint64_t, std::uint64_t>;
 
 namespace inner {
 
-/* Whether a call's code isn't a refusal: the code, or std::bad_alloc. */
+/* Returns the code of a call, or throws std::bad_alloc for CONGEE_OOM. */
 inline int made(int code) {
     if (code == CONGEE_OOM) {
 #ifdef __cpp_exceptions
@@ -58,11 +61,8 @@ inline std::optional<pair> pair_if(int code, const congee_pair &at) {
     return code ? std::optional<pair>(std::in_place, at.key, at.value) : std::nullopt;
 }
 
-/* How many pairs are read at once. */
-constexpr std::size_t page = 64;
-
-/* Calls the function with all pairs from first to last, which `read` reads by pages. */
-template <class R, class F> void each(std::uint64_t first, std::uint64_t last, R read, F f) {
+/* Calls the function with all pairs from first to last, and reads them in pages of so many pairs by `read`. */
+template <std::size_t page, class R, class F> void each(std::uint64_t first, std::uint64_t last, R read, F f) {
     congee_pair pairs[page] = {};
     for (std::size_t n; (n = read(first, last, pairs, page)) > 0; first = pairs[n - 1].key + 1) {
         for (std::size_t i = 0; i < n; i++)
@@ -72,10 +72,21 @@ template <class R, class F> void each(std::uint64_t first, std::uint64_t last, R
     }
 }
 
+/* Calls the function with all pairs from last down to first, and reads them in pages of so many pairs by `read`. */
+template <std::size_t page, class R, class F> void each_down(std::uint64_t first, std::uint64_t last, R read, F f) {
+    congee_pair pairs[page] = {};
+    for (std::size_t n; (n = read(first, last, pairs, page)) > 0; last = pairs[n - 1].key - 1) {
+        for (std::size_t i = 0; i < n; i++)
+            f(pairs[i].key, pairs[i].value);
+        if (n < page || pairs[n - 1].key <= first)
+            return;
+    }
+}
+
 } // namespace inner
 
-/* An ordered map from std::uint64_t to std::uint64_t. It can be moved, and copied by copy(), which may throw. A map that was
- * moved from is empty, and can be used again. */
+/* An ordered map from std::uint64_t to std::uint64_t for one thread. A map can be moved, and a map that was moved from is
+ * empty and can be used again. copy() copies a map, and may throw. */
 class map {
 public:
     using key_type = std::uint64_t;
@@ -84,7 +95,8 @@ public:
     using size_type = std::uint64_t;
 
     map() { inner::made(congee_new(&map_)); }
-    /* A map whose nodes may take so many bytes (congee_new_with_limit). */
+    /* Makes a map whose nodes take at most `bytes` bytes together by their stated sizes (congee_new_with_limit). Throws
+     * std::bad_alloc if malloc finds no memory or the limit is below 2104 bytes. */
     static map with_limit(std::uint64_t bytes) {
         map made(nullptr);
         inner::made(congee_new_with_limit(&made.map_, bytes));
@@ -103,14 +115,14 @@ public:
     }
     map(const map &) = delete;
     map &operator=(const map &) = delete;
-    /* A map, or none where there is no memory. */
+    /* Makes a map with a limit in bytes, or returns none if malloc finds no memory or the limit is below 2104 bytes. */
     static std::optional<map> try_new(std::uint64_t limit = UINT64_MAX) noexcept {
         map made(nullptr);
         if (congee_new_with_limit(&made.map_, limit) == CONGEE_OOM)
             return std::nullopt;
         return made;
     }
-    /* One more map of the same pairs, with the same limit. */
+    /* Returns a copy of the map with the same limit, or throws std::bad_alloc. */
     map copy() const {
         map other = map_ ? with_limit(congee_limit(map_)) : map();
         each([&other](std::uint64_t key, std::uint64_t value) { other.insert_or_assign(key, value); });
@@ -119,17 +131,18 @@ public:
     void swap(map &other) noexcept { std::swap(map_, other.map_); }
     friend void swap(map &a, map &b) noexcept { a.swap(b); }
 
-    /* A pair of the map, read as the iterator comes to it, or its end. It goes on from its key, whether that is still there
-     * or not. So no change of the map leaves it dangling. It ends with the map. */
+    /* A pair of the map, or the end. An iterator copies the pair when it comes to the pair, and goes on from the pair's key,
+     * also if the key was removed since. So no change of the map invalidates an iterator. An iterator is used only while
+     * the map lasts. */
     class const_iterator {
     public:
-        /* (it returns values, so it is an input iterator to C++17, and bidirectional to C++20) */
+        /* (an iterator that returns values is an input iterator in C++17, and bidirectional in C++20) */
         using iterator_category = std::input_iterator_tag;
         using iterator_concept = std::bidirectional_iterator_tag;
         using value_type = pair;
         using difference_type = std::ptrdiff_t;
         using reference = pair;
-        /* What `it->first` reads. */
+        /* The type of operator->, which holds a copy of the pair. */
         class pointer {
         public:
             const pair *operator->() const { return &at_; }
@@ -194,7 +207,7 @@ public:
     const_iterator find(std::uint64_t key) const {
         return found([key](const congee *of, congee_pair *at) { return congee_get(of, at->key = key, &at->value); });
     }
-    /* The greatest key up to this one, or end(). */
+    /* Returns the place of the greatest key that is at most `key`, or end(). */
     const_iterator floor(std::uint64_t key) const {
         return found([key](const congee *of, congee_pair *at) { return congee_floor(of, key, at); });
     }
@@ -207,19 +220,20 @@ public:
         std::uint64_t value = 0;
         return map_ && congee_get(map_, key, &value) ? std::optional<std::uint64_t>(value) : std::nullopt;
     }
-    /* The key's value, or std::out_of_range. */
+    /* Returns the key's value, or throws std::out_of_range. */
     std::uint64_t at(std::uint64_t key) const {
         std::optional<std::uint64_t> value = get(key);
         if (!value)
             inner::no_key();
         return *value;
     }
-    /* Calls the function with the key and the value of all pairs, or of those from first to last, keys ascending. Reads 64
-     * pairs at once, so it is faster than iterators, and the function doesn't see what it changes of these. */
+    /* Calls the function with the key and the value of each pair from first to last, keys ascending. The call reads pages
+     * of 256 pairs, so it is faster than iterators. The function may change the map, and gets a page's pairs as they were
+     * when the page was read. */
     template <class F> void each(std::uint64_t first, std::uint64_t last, F f) const {
         const congee *of = map_;
         if (of && first <= last)
-            inner::each(
+            inner::each<256>(
                 first, last,
                 [of](std::uint64_t low, std::uint64_t high, congee_pair *pairs, std::size_t n) {
                     return congee_range_inclusive(of, low, high, pairs, n);
@@ -228,16 +242,17 @@ public:
     }
     template <class F> void each(F f) const { each(0, UINT64_MAX, f); }
 
-    /* Sets the key's value. Returns its place, and whether the key is new. */
+    /* Sets the key's value. Returns the key's place, and whether the key is new. */
     std::pair<const_iterator, bool> insert_or_assign(std::uint64_t key, std::uint64_t value) {
         bool is_new = inner::made(congee_insert(native(), key, value, nullptr)) == 0;
         return {at_pair(key, value), is_new};
     }
-    /* The code of congee_insert, which may be CONGEE_OOM, and at `old` the value before, if there was one. */
+    /* Sets the key's value. Returns CONGEE_ABSENT for a new key, CONGEE_PRESENT for a present key, with the previous value
+     * in *old, or CONGEE_OOM with nothing changed. `old` may be null. */
     int try_insert_or_assign(std::uint64_t key, std::uint64_t value, std::uint64_t *old = nullptr) noexcept {
         return map_ || congee_new(&map_) != CONGEE_OOM ? congee_insert(map_, key, value, old) : CONGEE_OOM;
     }
-    /* Gives the key the value if it is absent. Returns its place, and whether the key is new. */
+    /* Inserts the value if the key is absent. Returns the key's place, and whether the key is new. */
     std::pair<const_iterator, bool> try_emplace(std::uint64_t key, std::uint64_t value) {
         std::uint64_t current = value;
         bool is_new = inner::made(congee_get_or_insert(native(), key, value, &current)) == 0;
@@ -257,13 +272,13 @@ public:
         erase(it.at_.key);
         return upper_bound(it.at_.key);
     }
-    /* Erases the keys from the first place on and below the last, and returns that. */
+    /* Erases the keys from the place `first` on and below the place `last`, and returns `last`. */
     const_iterator erase(const const_iterator &first, const const_iterator &last) {
         if (first.there_ && !(last.there_ && last.at_.key <= first.at_.key))
             congee_remove_range_inclusive(map_, first.at_.key, last.there_ ? last.at_.key - 1 : UINT64_MAX);
         return last;
     }
-    /* Takes the least or the greatest key out. */
+    /* Removes the pair with the least key, or with the greatest key, and returns the pair. */
     std::optional<pair> pop_first() {
         congee_pair at = {0, 0};
         return inner::pair_if(map_ ? congee_pop_first(map_, &at) : 0, at);
@@ -272,8 +287,8 @@ public:
         congee_pair at = {0, 0};
         return inner::pair_if(map_ ? congee_pop_last(map_, &at) : 0, at);
     }
-    /* As of std::atomic: false where the value isn't `expected`, which is then set to the current one. For an absent key
-     * false, and `expected` stays. */
+    /* Replaces the key's value by `desired` if the value is `expected`, and returns true. Otherwise returns false: a present
+     * key's value is in `expected` then, and for an absent key `expected` is unchanged. */
     bool compare_exchange(std::uint64_t key, std::uint64_t &expected, std::uint64_t desired) {
         return map_ && congee_compare_exchange(map_, key, expected, desired, &expected) == 1;
     }
@@ -282,8 +297,8 @@ public:
             congee_clear(map_);
     }
 
-    /* The place of a key's value. `m[k]` reads it, or 0, and inserts nothing. `m[k] = v`, `m[k] += n` and `m[k] -= n` are one
-     * call each. */
+    /* The place of a key's value. `m[k]` reads the value, or 0 for an absent key, and inserts nothing. `m[k] = v`,
+     * `m[k] += n` and `m[k] -= n` are one call each. */
     class place {
     public:
         operator std::uint64_t() const { return map_->get(key_).value_or(0); }
@@ -318,7 +333,7 @@ public:
     }
     friend bool operator!=(const map &a, const map &b) { return !(a == b); }
 
-    /* For the calls of congee.h that have no other name here. */
+    /* Returns the map of congee.h, for calls that the class doesn't have. */
     congee *native() {
         if (!map_)
             inner::made(congee_new(&map_));
@@ -348,7 +363,7 @@ private:
 
 namespace inner {
 
-/* The calls of a handle of each kind, by one name. */
+/* The calls of a handle of each kind, by common names. */
 struct live_calls {
     using native = congee_live;
     static constexpr auto another = congee_live_another;
@@ -361,12 +376,16 @@ struct live_calls {
     static constexpr auto add = congee_live_add;
     static constexpr auto get_or_insert = congee_live_get_or_insert;
     static constexpr auto range_inclusive = congee_live_range_inclusive;
+    static constexpr auto range_descending = congee_live_range_descending;
     static constexpr auto first = congee_live_first;
     static constexpr auto last = congee_live_last;
     static constexpr auto ceiling = congee_live_ceiling;
     static constexpr auto above = congee_live_above;
     static constexpr auto floor = congee_live_floor;
     static constexpr auto below = congee_live_below;
+    static constexpr auto pop_first = congee_live_pop_first;
+    static constexpr auto pop_last = congee_live_pop_last;
+    static constexpr auto clear = congee_live_clear;
     static constexpr auto is_empty = congee_live_is_empty;
     static constexpr auto count = congee_live_count;
 };
@@ -383,18 +402,23 @@ struct shared_calls {
     static constexpr auto add = congee_shared_add;
     static constexpr auto get_or_insert = congee_shared_get_or_insert;
     static constexpr auto range_inclusive = congee_shared_range_inclusive;
+    static constexpr auto range_descending = congee_shared_range_descending;
     static constexpr auto first = congee_shared_first;
     static constexpr auto last = congee_shared_last;
     static constexpr auto ceiling = congee_shared_ceiling;
     static constexpr auto above = congee_shared_above;
     static constexpr auto floor = congee_shared_floor;
     static constexpr auto below = congee_shared_below;
+    static constexpr auto pop_first = congee_shared_pop_first;
+    static constexpr auto pop_last = congee_shared_pop_last;
+    static constexpr auto clear = congee_shared_clear;
     static constexpr auto is_empty = congee_shared_is_empty;
     static constexpr auto count = congee_shared_count;
 };
 
-/* A handle of a map that threads share: an object for each thread. A copy is one more handle, which has seen what the first
- * had. Copying is a call of the first, too, so make a thread's copy before the thread starts. Each call waits where it has to. */
+/* A handle of a map that threads share, an object for each thread. A copy is one more handle, which begins with the history
+ * that the first has seen. Copying is a call of the first handle, so a thread's copy is made before the thread starts. Calls
+ * wait while they are busy (congee_live.h, congee_shared.h). */
 template <class C> class handle {
 public:
     using key_type = std::uint64_t;
@@ -416,40 +440,66 @@ public:
     bool contains(std::uint64_t key) { return C::get(map_, key, nullptr) != 0; }
     /* Sets the key's value. Returns whether the key is new. */
     bool insert_or_assign(std::uint64_t key, std::uint64_t value) { return made(C::insert(map_, key, value, nullptr)) == 0; }
-    /* The code of the call in C, which may be CONGEE_OOM, and at `old` the value before, if there was one. */
+    /* Sets the key's value. Returns CONGEE_ABSENT for a new key, CONGEE_PRESENT for a present key, with the previous value
+     * in *old, or CONGEE_OOM with no pair changed. `old` may be null. */
     int try_insert_or_assign(std::uint64_t key, std::uint64_t value, std::uint64_t *old = nullptr) noexcept {
         return C::insert(map_, key, value, old);
     }
-    /* Gives the key the value if it is absent. Returns the value that it has then, and whether the key is new. */
+    /* Inserts the value if the key is absent. Returns the key's value after the call, and whether the key is new. */
     std::pair<std::uint64_t, bool> try_emplace(std::uint64_t key, std::uint64_t value) {
         std::uint64_t current = value;
         bool is_new = made(C::get_or_insert(map_, key, value, &current)) == 0;
         return {current, is_new};
     }
-    /* Removes the key. Returns whether it was there. */
+    /* Removes the key. Returns whether the key was present. */
     bool erase(std::uint64_t key) { return C::remove(map_, key, nullptr) != 0; }
-    /* Removes the key, and returns the value that it had. */
+    /* Removes the key. Returns the removed value, or none if the key was absent. */
     std::optional<std::uint64_t> take(std::uint64_t key) {
         std::uint64_t value = 0;
         return C::remove(map_, key, &value) ? std::optional<std::uint64_t>(value) : std::nullopt;
     }
-    /* Adds to the key's value, or to 0, and returns the value before, or 0. */
+    /* Adds n to the key's value, modulo 2^64, and returns the value before. A new key gets n as value, and 0 is returned. */
     std::uint64_t fetch_add(std::uint64_t key, std::uint64_t n) {
         std::uint64_t before = 0;
         made(C::add(map_, key, n, &before));
         return before;
     }
-    /* As of std::atomic: false where the value isn't `expected`, which is then set to the current one. For an absent key
-     * false, and `expected` stays. */
+    /* Replaces the key's value by `desired` if the value is `expected`, and returns true. Otherwise returns false: a present
+     * key's value is in `expected` then, and for an absent key `expected` is unchanged. */
     bool compare_exchange(std::uint64_t key, std::uint64_t &expected, std::uint64_t desired) {
         return C::compare_exchange(map_, key, expected, desired, &expected) == 1;
     }
-    /* Removes the key if its value is `expected`, in other respects as compare_exchange. */
+    /* Removes the key if its value is `expected`, and returns true. Otherwise returns false: a present key's value is in
+     * `expected` then, and for an absent key `expected` is unchanged. */
     bool compare_erase(std::uint64_t key, std::uint64_t &expected) {
         return C::compare_remove(map_, key, expected, &expected) == 1;
     }
 
-    /* The ends, and the neighbours of a key: the least key from it on or above it, the greatest up to it or below it. */
+    /* Changes the key's value by a function of std::optional<std::uint64_t>: f gets the value, or none for an absent key, and
+     * returns the value that the key gets, or none for no such key. If another thread changes the key meanwhile, f is called
+     * again with the new value, so no change is lost. No lock is held while f runs. Returns the value before, or none. */
+    template <class F> std::optional<std::uint64_t> compute(std::uint64_t key, F f) {
+        std::optional<std::uint64_t> before = get(key);
+        for (;;) {
+            const std::optional<std::uint64_t> after = f(before);
+            std::uint64_t found = before.value_or(0);
+            int code;
+            if (!before && !after)
+                return before;
+            if (!before)
+                code = made(C::get_or_insert(map_, key, *after, &found)) == CONGEE_ABSENT ? CONGEE_PRESENT : CONGEE_OTHER;
+            else if (after)
+                code = C::compare_exchange(map_, key, *before, *after, &found);
+            else
+                code = C::compare_remove(map_, key, *before, &found);
+            if (code == CONGEE_PRESENT)
+                return before;
+            before = code == CONGEE_OTHER ? std::optional<std::uint64_t>(found) : std::nullopt;
+        }
+    }
+
+    /* The pair with the least key, the greatest key, the least key from `key` on (ceiling) or above `key`, and the greatest
+     * key up to `key` (floor) or below `key`, or none. */
     std::optional<pair> first() {
         congee_pair at = {0, 0};
         return pair_if(C::first(map_, &at), at);
@@ -474,12 +524,31 @@ public:
         congee_pair at = {0, 0};
         return pair_if(C::below(map_, key, &at), at);
     }
-    /* Calls the function with the key and the value of the pairs from first to last, keys ascending. Reads 64 at once, and
-     * other threads' calls come in between. */
+    /* Removes the pair with the least key, or with the greatest key, and returns the pair, or none. Two threads never pop one
+     * pair. In a live map a lesser or greater key may have been inserted during the call, and stays. */
+    std::optional<pair> pop_first() {
+        congee_pair at = {0, 0};
+        return pair_if(C::pop_first(map_, &at), at);
+    }
+    std::optional<pair> pop_last() {
+        congee_pair at = {0, 0};
+        return pair_if(C::pop_last(map_, &at), at);
+    }
+    /* Removes the keys from first to last, one by one, and returns how many this call removed. Calls of other threads come in
+     * between. */
+    std::uint64_t erase_range(std::uint64_t first, std::uint64_t last) {
+        std::uint64_t removed = 0;
+        each(first, last, [&](std::uint64_t key, std::uint64_t) { removed += erase(key); });
+        return removed;
+    }
+    /* Removes all pairs: of a shared map at one moment, and of a live map one by one. */
+    void clear() { C::clear(map_); }
+    /* Calls the function with the key and the value of each pair from first to last, keys ascending. The call reads pages
+     * of 64 pairs, and calls of other threads come in between. */
     template <class F> void each(std::uint64_t first, std::uint64_t last, F f) {
         native_type *of = map_;
         if (first <= last)
-            inner::each(
+            inner::each<64>(
                 first, last,
                 [of](std::uint64_t low, std::uint64_t high, congee_pair *pairs, std::size_t n) {
                     return C::range_inclusive(of, low, high, pairs, n);
@@ -487,9 +556,22 @@ public:
                 f);
     }
     template <class F> void each(F f) { each(0, UINT64_MAX, f); }
+    /* Calls the function with the key and the value of each pair from last down to first, keys descending. The call reads
+     * pages of 64 pairs, and calls of other threads come in between. A live map is searched for each pair. */
+    template <class F> void each_descending(std::uint64_t first, std::uint64_t last, F f) {
+        native_type *of = map_;
+        if (first <= last)
+            inner::each_down<64>(
+                first, last,
+                [of](std::uint64_t low, std::uint64_t high, congee_pair *pairs, std::size_t n) {
+                    return C::range_descending(of, low, high, pairs, n);
+                },
+                f);
+    }
+    template <class F> void each_descending(F f) { each_descending(0, UINT64_MAX, f); }
     bool empty() { return C::is_empty(map_); }
     std::uint64_t size() { return C::count(map_); }
-    /* For the calls in C that have no other name here. */
+    /* Returns the handle in C, for calls that the class doesn't have. */
     native_type *native() { return map_; }
 
 protected:
@@ -499,11 +581,11 @@ protected:
 
 } // namespace inner
 
-/* A map that threads share, whose look-ups take no lock and write nothing that other threads read (congee_live.h). */
+/* A map that threads share. Look-ups take no lock, and write nothing that other threads read (congee_live.h). */
 class live_map : public inner::handle<inner::live_calls> {
 public:
     live_map() { inner::made(congee_live_new(&map_)); }
-    /* A map whose nodes may take so many bytes. */
+    /* A map whose nodes take at most `limit` bytes together (congee_live_new_with_limit). */
     explicit live_map(std::uint64_t limit) {
         congee_live_handle made = {nullptr};
         inner::made(congee_c_live_new(limit, &made));
@@ -511,7 +593,7 @@ public:
     }
 };
 
-/* A map that threads share under one lock, or in 64 shards each under its own (congee_shared.h). */
+/* A map that threads share under one lock, or in 64 shards with a lock each (congee_shared.h). */
 class shared_map : public inner::handle<inner::shared_calls> {
 public:
     explicit shared_map(std::uint64_t limit = UINT64_MAX) { inner::made(congee_shared_new(limit, &map_)); }
@@ -520,15 +602,6 @@ public:
         inner::made(congee_shared_new_sharded(limit, &made.map_));
         return made;
     }
-    std::optional<pair> pop_first() {
-        congee_pair at = {0, 0};
-        return inner::pair_if(congee_shared_pop_first(map_, &at), at);
-    }
-    std::optional<pair> pop_last() {
-        congee_pair at = {0, 0};
-        return inner::pair_if(congee_shared_pop_last(map_, &at), at);
-    }
-    void clear() { congee_shared_clear(map_); }
 
 private:
     explicit shared_map(std::nullptr_t) {}

@@ -1,10 +1,10 @@
-/* congee_exports.h: what libcongee.a exports, for congee.h, congee_shared.h and congee_live.h, which have the functions for
- * use. MIT license.
+/* congee_exports.h: the functions that libcongee.a exports. Programs use the functions of congee.h, congee_shared.h and
+ * congee_live.h, which are plain C around these. MIT license.
  *
- * What each of these functions returns and leaves is proved of its code. crates/congee_c, congee_shared_c and
- * congee_live_c have the contracts. They take a map, a reader or a handle by the place of its address. A place for a
- * value, a pair or a number isn't null and is initialised, and so are the n pairs of a buffer. Where a call only reads,
- * that address is const here. To the archive both are one word. */
+ * What each exported function returns and leaves is proved of its code. The contracts are in crates/congee_c,
+ * crates/congee_shared_c and crates/congee_live_c. A function takes a map, a reader or a handle by the place of its
+ * address. A call that only reads takes a const place. A place for a value, a pair or a number isn't null and is
+ * initialised, and so are the n pairs of a buffer. */
 #ifndef CONGEE_EXPORTS_H
 #define CONGEE_EXPORTS_H
 
@@ -132,7 +132,7 @@ int32_t congee_c_shared_pop_last(struct congee_shared_handle *handle, struct con
 int32_t congee_c_shared_clear(struct congee_shared_handle *handle);
 int32_t congee_c_shared_is_empty(struct congee_const_shared_handle *handle, uint64_t *out);
 int32_t congee_c_shared_count(struct congee_const_shared_handle *handle, uint64_t *out);
-int32_t congee_c_shared_charged(struct congee_const_shared_handle *handle, uint64_t *out);
+int32_t congee_c_shared_usage(struct congee_const_shared_handle *handle, uint64_t *charged, uint64_t *limit);
 
 int32_t congee_c_live_new(uint64_t limit, struct congee_live_handle *out);
 uint64_t congee_c_live_limit(struct congee_const_live_handle *handle);

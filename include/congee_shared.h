@@ -1,40 +1,45 @@
-/* congee_shared.h: a map from uint64_t to uint64_t that threads share, each by a handle of its own. C11 and C++11. MIT
- * license.
+/* congee_shared.h: a map from uint64_t to uint64_t that threads share, under locks. C11 and C++11. MIT license.
  *
- * congee.h includes this header. congee_live.h has a map that is read without a lock, and which of its calls take the
- * place of these. A handle is one caller of the map. A map is under one lock, or in 64 shards, each under a lock of its
- * own. A call of one key takes the lock of its key's shard, and any other call those of all shards. A call holds them no
- * longer than it works: meanwhile it waits for no other call, and calls nothing of the program but malloc, realloc and
- * free. A call tries each lock a bounded number of times. If one is taken each time, the map is busy: the call gives back
- * the others and ends, and nothing has changed.
+ * congee.h includes this header. Each thread calls the map by a handle of its own. A map is under one lock, or in 64
+ * shards with a lock each. A call of one key takes the lock of the key's shard, and every other call takes all locks. A
+ * call holds its locks only while it works. Meanwhile it waits for no other call, and calls nothing of the program but
+ * malloc, realloc and free. A map that is read without a lock is in congee_live.h, which lists what differs there.
  *
- *   - congee_shared_try_get and the others with `try` return CONGEE_BUSY then. They end whatever other threads do with
- *     the map.
- *   - congee_shared_get and the others without it yield and try again. They end once the lock is theirs. It goes to
- *     whoever tries next, so nothing bounds how long that takes. CONGEE_YIELD() is how they yield: sched_yield, unless
- *     the program defines it before it includes this header. A thread with a real-time priority has to sleep there.
+ * A call tries each lock a bounded number of times. If a lock is taken at each try, the call releases the locks that it
+ * has.
  *
- * What a call of the library's own functions returns is proved of their code (congee_exports.h): calls are sequentially
- * consistent. Each handle knows a history of the map, which is a legal run of one ordered map. The history explains each
- * reply of the handle, and has the handle's own calls in their order. Any two handles can meet, which never fails, and have
- * one history from then on. So no two handles know histories that contradict each other. A new handle begins with its
- * maker's history. Handles that meet are in order of time from then on, and so are a handle that makes a note and one that
- * learns the note (congee_shared_meet, congee_shared_note). A call that is busy or finds no memory isn't in the history. The
- * functions for use are plain C around the exports, and are tested.
+ *   - congee_shared_try_get and all calls with `try` return CONGEE_BUSY then, and nothing has changed. Such a call ends
+ *     whatever other threads do with the map.
+ *   - congee_shared_get and all calls without `try` yield and begin again, until the locks are theirs. A free lock goes
+ *     to whoever tries next, so nothing bounds how long a call takes. CONGEE_YIELD() yields: sched_yield, unless the
+ *     program defines the macro before including congee.h. A thread with a real-time priority has to sleep there.
  *
- * What a program owes, beside the rules of congee.h on places, buffers, stack and malloc. Nothing checks it:
+ * What the library's own functions return is proved of their code (congee_exports.h): calls are sequentially
+ * consistent. Each handle has seen a history of the map, which is a legal run of one ordered map. The history explains
+ * each reply of the handle, and has the handle's own calls in their order. Any two handles can meet at any time, which
+ * never fails, and have one history from then on. So no two handles have seen histories that contradict each other. A
+ * new handle begins with the history of the handle that made it. Handles that meet are in order of time from then on,
+ * and so are a handle that makes a note and a handle that learns the note (congee_shared_meet, congee_shared_note). A
+ * call also comes after all calls that had ended before, by whatever handle. For handles that never met, only tests
+ * show that. A call that returns CONGEE_BUSY or CONGEE_OOM isn't in the history.
  *
- *   - A handle is used from when it was made until it is freed. One call at a time uses it. Different handles may be in
- *     calls at once, those of one map too.
+ * The functions for use are plain C around the library's own, and are tested. Tested, and not proved, are also the
+ * costs that a comment names, the locks and the memory that a call takes, and that the limit is the number that the map
+ * was made with. No theorem states that a call is busy or out of memory only when it has to be.
+ *
+ * What a program owes, beside the rules of congee.h on places, buffers, stack and malloc. Nothing checks these rules:
+ *
+ *   - A handle is used from when it was made until it is freed. One call at a time uses a handle, calls with a const
+ *     handle included. Different handles, also of one map, may be in calls at once.
  *   - A handle goes to another thread by a lock, by the start or the join of a thread, or by a sequentially consistent
  *     atomic.
- *   - No thread ends inside a call: it isn't cancelled at any place it may be at (PTHREAD_CANCEL_ASYNCHRONOUS). The map
- *     would stay busy for all others. A thread that is stopped inside a call keeps the map busy until it goes on, and
- *     one that is stopped between two calls keeps nobody.
- *   - No call is made in a signal handler. Inside a call that it interrupts the map is busy, so one that waits would
- *     wait for ever.
- *   - No call is made in the forked child of a process with threads. If another thread was in a call, the map is busy
- *     there for ever.
+ *   - No thread ends inside a call, so no thread with asynchronous cancellation (PTHREAD_CANCEL_ASYNCHRONOUS) makes
+ *     calls. The map would stay busy for all others. A thread that is stopped inside a call keeps the map busy until it
+ *     goes on. A thread that is stopped between two calls blocks nobody.
+ *   - No call is made in a signal handler. Inside a call that the signal interrupts the map is busy, so a call that
+ *     waits would wait for ever.
+ *   - No call is made in the forked child of a process with threads. If another thread was in a call at the fork, the
+ *     map is busy in the child for ever.
  *
  * tools/dev/make-pages makes the manual page from this file: from this comment, the headings and each function's
  * comment.
@@ -63,8 +68,9 @@ struct congee_shared_note;
 
 /* Makes an empty map under one lock whose nodes may take so many bytes by their stated sizes, and its first handle.
  * UINT64_MAX is no limit. The sizes are 64, 168, 672 or 2104 bytes for a node of up to 4, 16, 48 or 256 entries. The
- * first node is of the largest size, so a smaller limit fails. That a limit isn't passed is tested, and no theorem
- * states it. Returns CONGEE_DONE with the handle in *out, or CONGEE_OOM with null there. */
+ * first node is of the largest size, so a smaller limit fails. The sizes are at most the limit at any time, which is
+ * proved (congee_shared_usage). That it is the number of bytes handed over here is tested, and no theorem for C states
+ * it. Returns CONGEE_DONE with the handle in *out, or CONGEE_OOM with null there. */
 static inline int congee_shared_new(uint64_t limit, struct congee_shared **out) {
     struct congee_shared_handle made = {NULL};
     int code = congee_c_shared_new(limit, &made);
@@ -84,9 +90,9 @@ static inline int congee_shared_new_sharded(uint64_t limit, struct congee_shared
     return code;
 }
 
-/* Makes one more handle of the map, for another thread. Both have then seen what this one had. Takes a small block,
- * so a thread keeps its handle for many calls. Returns CONGEE_DONE with the handle in *out, or CONGEE_OOM with null
- * there. */
+/* Makes one more handle of the map, for another thread. Returns CONGEE_DONE with the handle in *out, or CONGEE_OOM with
+ * null there, and no pair has changed. The new handle begins with the history that `map` has seen. A handle takes a
+ * small block, so a thread keeps one for many calls. */
 static inline int congee_shared_another(struct congee_shared *map, struct congee_shared **out) {
     struct congee_shared_handle handle = {map}, made = {NULL};
     int code = congee_c_shared_another(&handle, &made);
@@ -94,7 +100,7 @@ static inline int congee_shared_another(struct congee_shared *map, struct congee
     return code;
 }
 
-/* Frees the handle, and with its last handle the map. For null it does nothing. */
+/* Frees the handle, and the map with its last handle or note. For null the call does nothing. */
 static inline void congee_shared_free(struct congee_shared *map) {
     struct congee_shared_handle handle = {map};
     if (map)
@@ -103,19 +109,19 @@ static inline void congee_shared_free(struct congee_shared *map) {
 
 /* -- Order in time -- */
 
-/* Two handles of one map meet. Both have then seen what either had, so a call that either makes later comes after all that
- * either had made or read. A handle may meet itself, which does nothing. That both are of one map is what the program owes.
- * Takes no lock and no memory. */
+/* Orders two handles of one map in time: calls that either handle had made, or had learned of, come before all later
+ * calls of both. Both handles have then seen one history. The program makes sure that both handles are of one map. A
+ * handle may meet itself, without effect. The call never fails, and takes no lock and no memory. */
 static inline void congee_shared_meet(struct congee_shared *map, struct congee_shared *other) {
     struct congee_shared_handle handle = {map}, second = {other};
     if (map != other)
         congee_c_shared_meet(&handle, &second);
 }
 
-/* Makes a note of what the handle has seen so far, for handles that are never in one place with it. A note goes to
- * another thread as a handle does. A call of this handle that returned before comes before each call of one that has
- * learned the note since. The map is there as long as its notes. Takes a small block. Returns CONGEE_DONE with the note
- * in *out, or CONGEE_OOM with null there. */
+/* Makes a note of the history that the handle has seen, for a handle on another thread. All calls that the handle has
+ * made come before the calls that a handle makes once it has learned the note (congee_shared_learn). Returns
+ * CONGEE_DONE with the note in *out, or CONGEE_OOM with null there, and no pair has changed. A note takes a small
+ * block. A note goes to another thread as a handle does, and the map lasts as long as its last note. */
 static inline int congee_shared_note(struct congee_shared *map, struct congee_shared_note **out) {
     struct congee_shared *made;
     int code = congee_shared_another(map, &made);
@@ -123,21 +129,23 @@ static inline int congee_shared_note(struct congee_shared *map, struct congee_sh
     return code;
 }
 
-/* The handle has then seen what was noted, and the note what the handle has seen. The note is of the handle's map, and one call
- * at a time uses it. Takes no lock and no memory. */
+/* Orders the handle after a note: all calls that the note has seen come before the handle's later calls. The handle and
+ * the note have then seen one history. The program makes sure that the note is of the handle's map, and that one call
+ * at a time uses the note. The call never fails, and takes no lock and no memory. */
 static inline void congee_shared_learn(struct congee_shared *map, struct congee_shared_note *note) {
     congee_shared_meet(map, (struct congee_shared *)note);
 }
 
-/* Frees the note, and with the last handle or note of a map the map. For null it does nothing. */
+/* Frees the note, and the map with its last handle or note. For null the call does nothing. */
 static inline void congee_shared_note_free(struct congee_shared_note *note) {
     congee_shared_free((struct congee_shared *)note);
 }
 
 /* -- One key -- */
 
-/* Looks the key up. Takes no memory. Returns CONGEE_PRESENT with the value in *value, or CONGEE_ABSENT. Returns
- * CONGEE_BUSY if a lock was taken at each of its tries. Then nothing has changed. */
+/* Looks the key up, without memory. Returns CONGEE_PRESENT with the key's value in *value, or CONGEE_ABSENT, which
+ * leaves *value unchanged. Returns CONGEE_BUSY, with nothing changed, if a lock of the call was taken at each of its
+ * tries. */
 static inline int congee_shared_try_get(const struct congee_shared *map, uint64_t key, uint64_t *value) {
     struct congee_const_shared_handle handle = {map};
     uint64_t it = 0;
@@ -147,8 +155,8 @@ static inline int congee_shared_try_get(const struct congee_shared *map, uint64_
     return code;
 }
 
-/* Looks the key up. Takes no memory. Waits while the map is busy. Returns CONGEE_PRESENT with the value in *value, or
- * CONGEE_ABSENT. */
+/* Looks the key up, without memory. Returns CONGEE_PRESENT with the key's value in *value, or CONGEE_ABSENT, which
+ * leaves *value unchanged. While a lock of the call is taken, the call yields and tries again. */
 static inline int congee_shared_get(const struct congee_shared *map, uint64_t key, uint64_t *value) {
     uint64_t it = 0;
     int code;
@@ -161,10 +169,10 @@ static inline int congee_shared_get(const struct congee_shared *map, uint64_t ke
     return 1;
 }
 
-/* Sets the key's value. A present key needs no memory. Returns CONGEE_ABSENT for a new key. Returns CONGEE_PRESENT
- * for a present one, with its previous value in *old. Returns CONGEE_OOM only for a new key, if malloc finds no
- * memory or the limit is reached. Then nothing has changed. Returns CONGEE_BUSY if a lock was taken at each of its
- * tries. Then nothing has changed. */
+/* Sets the key's value. Returns CONGEE_ABSENT for a new key, which leaves *old unchanged. Returns CONGEE_PRESENT for a
+ * present key, with the previous value in *old. Returns CONGEE_OOM, with nothing changed, if malloc finds no memory or
+ * the map's limit is reached. A present key needs no memory. Returns CONGEE_BUSY, with nothing changed, if a lock of
+ * the call was taken at each of its tries. */
 static inline int congee_shared_try_insert(struct congee_shared *map, uint64_t key, uint64_t value, uint64_t *old) {
     struct congee_shared_handle handle = {map};
     uint64_t it = 0;
@@ -174,9 +182,10 @@ static inline int congee_shared_try_insert(struct congee_shared *map, uint64_t k
     return code;
 }
 
-/* Sets the key's value. A present key needs no memory. Waits while the map is busy. Returns CONGEE_ABSENT for a new
- * key. Returns CONGEE_PRESENT for a present one, with its previous value in *old. Returns CONGEE_OOM only for a new
- * key, if malloc finds no memory or the limit is reached. Then nothing has changed. */
+/* Sets the key's value. Returns CONGEE_ABSENT for a new key, which leaves *old unchanged. Returns CONGEE_PRESENT for a
+ * present key, with the previous value in *old. Returns CONGEE_OOM, with nothing changed, if malloc finds no memory or
+ * the map's limit is reached. A present key needs no memory. While a lock of the call is taken, the call yields and
+ * tries again. */
 static inline int congee_shared_insert(struct congee_shared *map, uint64_t key, uint64_t value, uint64_t *old) {
     int code;
     while ((code = congee_shared_try_insert(map, key, value, old)) == CONGEE_BUSY)
@@ -184,8 +193,9 @@ static inline int congee_shared_insert(struct congee_shared *map, uint64_t key, 
     return code;
 }
 
-/* Removes the key. Is never out of memory. Returns CONGEE_PRESENT with the key's value in *old, or CONGEE_ABSENT.
- * Returns CONGEE_BUSY if a lock was taken at each of its tries. Then nothing has changed. */
+/* Removes the key. Returns CONGEE_PRESENT with the removed value in *old, or CONGEE_ABSENT, which leaves *old
+ * unchanged. A removal is never out of memory. Returns CONGEE_BUSY, with nothing changed, if a lock of the call was
+ * taken at each of its tries. */
 static inline int congee_shared_try_remove(struct congee_shared *map, uint64_t key, uint64_t *old) {
     struct congee_shared_handle handle = {map};
     uint64_t it = 0;
@@ -195,8 +205,8 @@ static inline int congee_shared_try_remove(struct congee_shared *map, uint64_t k
     return code;
 }
 
-/* Removes the key. Is never out of memory. Waits while the map is busy. Returns CONGEE_PRESENT with the key's value
- * in *old, or CONGEE_ABSENT. */
+/* Removes the key. Returns CONGEE_PRESENT with the removed value in *old, or CONGEE_ABSENT, which leaves *old
+ * unchanged. A removal is never out of memory. While a lock of the call is taken, the call yields and tries again. */
 static inline int congee_shared_remove(struct congee_shared *map, uint64_t key, uint64_t *old) {
     uint64_t it = 0;
     int code;
@@ -209,10 +219,11 @@ static inline int congee_shared_remove(struct congee_shared *map, uint64_t key, 
     return 1;
 }
 
-/* Replaces the key's value by the desired one if it is the expected one. Takes no memory. Returns CONGEE_PRESENT if
- * the value was replaced. Returns CONGEE_OTHER if the key has another value, which is written to *found. Returns
- * CONGEE_ABSENT if the key is absent. Without CONGEE_PRESENT nothing has changed. Returns CONGEE_BUSY if a lock was
- * taken at each of its tries. Then nothing has changed. */
+/* Replaces the key's value by `desired` if the value is `expected`. Returns CONGEE_PRESENT after the exchange,
+ * CONGEE_ABSENT if the key is absent, and CONGEE_OTHER if the key has a value that isn't `expected`. *found gets that
+ * value with CONGEE_OTHER, and is unchanged with all other codes. Without CONGEE_PRESENT the call has changed nothing.
+ * The call needs no memory. Returns CONGEE_BUSY, with nothing changed, if a lock of the call was taken at each of its
+ * tries. */
 static inline int congee_shared_try_compare_exchange(struct congee_shared *map, uint64_t key, uint64_t expected,
                                                      uint64_t desired, uint64_t *found) {
     struct congee_shared_handle handle = {map};
@@ -223,9 +234,10 @@ static inline int congee_shared_try_compare_exchange(struct congee_shared *map, 
     return code;
 }
 
-/* Replaces the key's value by the desired one if it is the expected one. Takes no memory. Waits while the map is
- * busy. Returns CONGEE_PRESENT if the value was replaced. Returns CONGEE_OTHER if the key has another value, which is
- * written to *found. Returns CONGEE_ABSENT if the key is absent. Without CONGEE_PRESENT nothing has changed. */
+/* Replaces the key's value by `desired` if the value is `expected`. Returns CONGEE_PRESENT after the exchange,
+ * CONGEE_ABSENT if the key is absent, and CONGEE_OTHER if the key has a value that isn't `expected`. *found gets that
+ * value with CONGEE_OTHER, and is unchanged with all other codes. Without CONGEE_PRESENT the call has changed nothing.
+ * The call needs no memory. While a lock of the call is taken, the call yields and tries again. */
 static inline int congee_shared_compare_exchange(struct congee_shared *map, uint64_t key, uint64_t expected,
                                                  uint64_t desired, uint64_t *found) {
     int code;
@@ -234,10 +246,10 @@ static inline int congee_shared_compare_exchange(struct congee_shared *map, uint
     return code;
 }
 
-/* Removes the key if its value is the expected one. Is never out of memory. Returns CONGEE_PRESENT if the key was
- * removed. Returns CONGEE_OTHER if the key has another value, which is written to *found. Returns CONGEE_ABSENT if
- * the key is absent. Without CONGEE_PRESENT nothing has changed. Returns CONGEE_BUSY if a lock was taken at each of
- * its tries. Then nothing has changed. */
+/* Removes the key if the key's value is `expected`. Returns CONGEE_PRESENT after the removal, CONGEE_ABSENT if the key
+ * is absent, and CONGEE_OTHER if the key has a value that isn't `expected`. *found gets that value with CONGEE_OTHER,
+ * and is unchanged with all other codes. Without CONGEE_PRESENT the call has changed nothing. The call is never out of
+ * memory. Returns CONGEE_BUSY, with nothing changed, if a lock of the call was taken at each of its tries. */
 static inline int congee_shared_try_compare_remove(struct congee_shared *map, uint64_t key, uint64_t expected,
                                                    uint64_t *found) {
     struct congee_shared_handle handle = {map};
@@ -248,9 +260,10 @@ static inline int congee_shared_try_compare_remove(struct congee_shared *map, ui
     return code;
 }
 
-/* Removes the key if its value is the expected one. Is never out of memory. Waits while the map is busy. Returns
- * CONGEE_PRESENT if the key was removed. Returns CONGEE_OTHER if the key has another value, which is written to
- * *found. Returns CONGEE_ABSENT if the key is absent. Without CONGEE_PRESENT nothing has changed. */
+/* Removes the key if the key's value is `expected`. Returns CONGEE_PRESENT after the removal, CONGEE_ABSENT if the key
+ * is absent, and CONGEE_OTHER if the key has a value that isn't `expected`. *found gets that value with CONGEE_OTHER,
+ * and is unchanged with all other codes. Without CONGEE_PRESENT the call has changed nothing. The call is never out of
+ * memory. While a lock of the call is taken, the call yields and tries again. */
 static inline int congee_shared_compare_remove(struct congee_shared *map, uint64_t key, uint64_t expected,
                                                uint64_t *found) {
     int code;
@@ -259,10 +272,11 @@ static inline int congee_shared_compare_remove(struct congee_shared *map, uint64
     return code;
 }
 
-/* Adds the number to the key's value, modulo 2^64. A new key gets the number as its value. A present key needs no
- * memory. Returns CONGEE_ABSENT for a new key. Returns CONGEE_PRESENT for a present one, with the value before in
- * *old. Returns CONGEE_OOM only for a new key, if malloc finds no memory or the limit is reached. Then nothing has
- * changed. Returns CONGEE_BUSY if a lock was taken at each of its tries. Then nothing has changed. */
+/* Adds `number` to the key's value, modulo 2^64. A new key gets `number` as value. To subtract, add -(uint64_t)number.
+ * Returns CONGEE_ABSENT for a new key, which leaves *old unchanged. Returns CONGEE_PRESENT for a present key, with the
+ * value before the addition in *old. Returns CONGEE_OOM, with nothing changed, if malloc finds no memory or the map's
+ * limit is reached. A present key needs no memory. Returns CONGEE_BUSY, with nothing changed, if a lock of the call was
+ * taken at each of its tries. */
 static inline int congee_shared_try_add(struct congee_shared *map, uint64_t key, uint64_t number, uint64_t *old) {
     struct congee_shared_handle handle = {map};
     uint64_t it = 0;
@@ -272,10 +286,11 @@ static inline int congee_shared_try_add(struct congee_shared *map, uint64_t key,
     return code;
 }
 
-/* Adds the number to the key's value, modulo 2^64. A new key gets the number as its value. A present key needs no
- * memory. Waits while the map is busy. Returns CONGEE_ABSENT for a new key. Returns CONGEE_PRESENT for a present one,
- * with the value before in *old. Returns CONGEE_OOM only for a new key, if malloc finds no memory or the limit is
- * reached. Then nothing has changed. */
+/* Adds `number` to the key's value, modulo 2^64. A new key gets `number` as value. To subtract, add -(uint64_t)number.
+ * Returns CONGEE_ABSENT for a new key, which leaves *old unchanged. Returns CONGEE_PRESENT for a present key, with the
+ * value before the addition in *old. Returns CONGEE_OOM, with nothing changed, if malloc finds no memory or the map's
+ * limit is reached. A present key needs no memory. While a lock of the call is taken, the call yields and tries again.
+ */
 static inline int congee_shared_add(struct congee_shared *map, uint64_t key, uint64_t number, uint64_t *old) {
     int code;
     while ((code = congee_shared_try_add(map, key, number, old)) == CONGEE_BUSY)
@@ -283,11 +298,11 @@ static inline int congee_shared_add(struct congee_shared *map, uint64_t key, uin
     return code;
 }
 
-/* Gives the key the value if it is absent, and keeps the value of a present key. Of handles that give one key a value
- * at once, one is first and gets CONGEE_ABSENT. A present key needs no memory. Returns CONGEE_ABSENT for a new key.
- * Returns CONGEE_PRESENT for a present one, with its value in *found. Returns CONGEE_OOM only for a new key, if
- * malloc finds no memory or the limit is reached. Then nothing has changed. Returns CONGEE_BUSY if a lock was taken
- * at each of its tries. Then nothing has changed. */
+/* Inserts the value if the key is absent, and keeps the value of a present key. Returns CONGEE_ABSENT for a new key,
+ * which leaves *found unchanged. Returns CONGEE_PRESENT for a present key, with the present value in *found. Of several
+ * handles that insert one absent key at once, the first gets CONGEE_ABSENT. Returns CONGEE_OOM, with nothing changed,
+ * if malloc finds no memory or the map's limit is reached. A present key needs no memory. Returns CONGEE_BUSY, with
+ * nothing changed, if a lock of the call was taken at each of its tries. */
 static inline int congee_shared_try_get_or_insert(struct congee_shared *map, uint64_t key, uint64_t value,
                                                   uint64_t *found) {
     struct congee_shared_handle handle = {map};
@@ -298,10 +313,11 @@ static inline int congee_shared_try_get_or_insert(struct congee_shared *map, uin
     return code;
 }
 
-/* Gives the key the value if it is absent, and keeps the value of a present key. Of handles that give one key a value
- * at once, one is first and gets CONGEE_ABSENT. A present key needs no memory. Waits while the map is busy. Returns
- * CONGEE_ABSENT for a new key. Returns CONGEE_PRESENT for a present one, with its value in *found. Returns CONGEE_OOM
- * only for a new key, if malloc finds no memory or the limit is reached. Then nothing has changed. */
+/* Inserts the value if the key is absent, and keeps the value of a present key. Returns CONGEE_ABSENT for a new key,
+ * which leaves *found unchanged. Returns CONGEE_PRESENT for a present key, with the present value in *found. Of several
+ * handles that insert one absent key at once, the first gets CONGEE_ABSENT. Returns CONGEE_OOM, with nothing changed,
+ * if malloc finds no memory or the map's limit is reached. A present key needs no memory. While a lock of the call is
+ * taken, the call yields and tries again. */
 static inline int congee_shared_get_or_insert(struct congee_shared *map, uint64_t key, uint64_t value, uint64_t *found) {
     int code;
     while ((code = congee_shared_try_get_or_insert(map, key, value, found)) == CONGEE_BUSY)
@@ -311,10 +327,12 @@ static inline int congee_shared_get_or_insert(struct congee_shared *map, uint64_
 
 /* -- Ranges -- */
 
-/* Writes the first pairs with keys from start on and below end to the buffer, keys ascending, as many as there are or
- * as fit. The pairs are those of one moment, and a further page is of a later one. The rest of the buffer is
- * unchanged. Returns CONGEE_DONE with the number of pairs in *written, which isn't null. Returns CONGEE_BUSY if a
- * lock was taken at each of its tries. Then the buffer is unchanged. */
+/* Writes the first pairs with start <= key < end to the buffer, keys ascending, n pairs at most. Returns CONGEE_DONE
+ * with the number of pairs in *written, which isn't null. Returns CONGEE_BUSY, which leaves *written and the buffer
+ * unchanged, if a lock of the call was taken at each of its tries. All pairs of the page are of one moment, and a
+ * further page is of a later moment. The rest of the buffer is unchanged. UINT64_MAX is in no such range:
+ * congee_shared_range_inclusive has a last key. A full buffer is continued by a call that begins at the buffer's last
+ * key plus 1. The call takes no memory. */
 static inline int congee_shared_try_range(const struct congee_shared *map, uint64_t start, uint64_t end,
                                           struct congee_pair *buffer, size_t n, size_t *written) {
     struct congee_const_shared_handle handle = {map};
@@ -325,9 +343,11 @@ static inline int congee_shared_try_range(const struct congee_shared *map, uint6
     return code;
 }
 
-/* Writes the first pairs with keys from start on and below end to the buffer, keys ascending, as many as there are or
- * as fit, and returns their number. Waits while the map is busy. The pairs are those of one moment, and a further
- * page is of a later one. The rest of the buffer is unchanged. */
+/* Writes the first pairs with start <= key < end to the buffer, keys ascending, n pairs at most, and returns the number
+ * of pairs. While a lock of the call is taken, the call yields and tries again. All pairs of the page are of one
+ * moment, and a further page is of a later moment. The rest of the buffer is unchanged. UINT64_MAX is in no such range:
+ * congee_shared_range_inclusive has a last key. A full buffer is continued by a call that begins at the buffer's last
+ * key plus 1. The call takes no memory. */
 static inline size_t congee_shared_range(const struct congee_shared *map, uint64_t start, uint64_t end,
                                          struct congee_pair *buffer, size_t n) {
     size_t written = 0;
@@ -336,10 +356,11 @@ static inline size_t congee_shared_range(const struct congee_shared *map, uint64
     return written;
 }
 
-/* Writes the first pairs with keys from start to last to the buffer, keys ascending, as many as there are or as fit.
- * The pairs are those of one moment, and a further page is of a later one. The rest of the buffer is unchanged.
- * Returns CONGEE_DONE with the number of pairs in *written, which isn't null. Returns CONGEE_BUSY if a lock was taken
- * at each of its tries. Then the buffer is unchanged. */
+/* Writes the first pairs with start <= key <= last to the buffer, keys ascending, n pairs at most. Returns CONGEE_DONE
+ * with the number of pairs in *written, which isn't null. Returns CONGEE_BUSY, which leaves *written and the buffer
+ * unchanged, if a lock of the call was taken at each of its tries. All pairs of the page are of one moment, and a
+ * further page is of a later moment. The rest of the buffer is unchanged. A full buffer is continued by a call that
+ * begins at the buffer's last key plus 1, unless that key is `last`. The call takes no memory. */
 static inline int congee_shared_try_range_inclusive(const struct congee_shared *map, uint64_t start, uint64_t last,
                                                     struct congee_pair *buffer, size_t n, size_t *written) {
     struct congee_const_shared_handle handle = {map};
@@ -350,9 +371,10 @@ static inline int congee_shared_try_range_inclusive(const struct congee_shared *
     return code;
 }
 
-/* Writes the first pairs with keys from start to last to the buffer, keys ascending, as many as there are or as fit,
- * and returns their number. Waits while the map is busy. The pairs are those of one moment, and a further page is of
- * a later one. The rest of the buffer is unchanged. */
+/* Writes the first pairs with start <= key <= last to the buffer, keys ascending, n pairs at most, and returns the
+ * number of pairs. While a lock of the call is taken, the call yields and tries again. All pairs of the page are of one
+ * moment, and a further page is of a later moment. The rest of the buffer is unchanged. A full buffer is continued by a
+ * call that begins at the buffer's last key plus 1, unless that key is `last`. The call takes no memory. */
 static inline size_t congee_shared_range_inclusive(const struct congee_shared *map, uint64_t start, uint64_t last,
                                                    struct congee_pair *buffer, size_t n) {
     size_t written = 0;
@@ -361,10 +383,11 @@ static inline size_t congee_shared_range_inclusive(const struct congee_shared *m
     return written;
 }
 
-/* Writes the last pairs with keys from start to last to the buffer, keys descending, as many as there are or as fit.
- * The pairs are those of one moment, and a further page is of a later one. The rest of the buffer is unchanged.
- * Returns CONGEE_DONE with the number of pairs in *written, which isn't null. Returns CONGEE_BUSY if a lock was taken
- * at each of its tries. Then the buffer is unchanged. */
+/* Writes the last pairs with start <= key <= last to the buffer, keys descending, n pairs at most. Returns CONGEE_DONE
+ * with the number of pairs in *written, which isn't null. Returns CONGEE_BUSY, which leaves *written and the buffer
+ * unchanged, if a lock of the call was taken at each of its tries. All pairs of the page are of one moment, and a
+ * further page is of a later moment. The rest of the buffer is unchanged. A full buffer is continued by a call that
+ * ends at the buffer's last key minus 1, unless that key is `start`. The call takes no memory. */
 static inline int congee_shared_try_range_descending(const struct congee_shared *map, uint64_t start, uint64_t last,
                                                      struct congee_pair *buffer, size_t n, size_t *written) {
     struct congee_const_shared_handle handle = {map};
@@ -375,9 +398,10 @@ static inline int congee_shared_try_range_descending(const struct congee_shared 
     return code;
 }
 
-/* Writes the last pairs with keys from start to last to the buffer, keys descending, as many as there are or as fit,
- * and returns their number. Waits while the map is busy. The pairs are those of one moment, and a further page is of
- * a later one. The rest of the buffer is unchanged. */
+/* Writes the last pairs with start <= key <= last to the buffer, keys descending, n pairs at most, and returns the
+ * number of pairs. While a lock of the call is taken, the call yields and tries again. All pairs of the page are of one
+ * moment, and a further page is of a later moment. The rest of the buffer is unchanged. A full buffer is continued by a
+ * call that ends at the buffer's last key minus 1, unless that key is `start`. The call takes no memory. */
 static inline size_t congee_shared_range_descending(const struct congee_shared *map, uint64_t start, uint64_t last,
                                                     struct congee_pair *buffer, size_t n) {
     size_t written = 0;
@@ -388,8 +412,9 @@ static inline size_t congee_shared_range_descending(const struct congee_shared *
 
 /* -- Ends and neighbours -- */
 
-/* Finds the pair with the least key. Returns CONGEE_PRESENT with the pair in *pair, or CONGEE_ABSENT where there is
- * none. Returns CONGEE_BUSY if a lock was taken at each of its tries. */
+/* Finds the pair with the least key. Returns CONGEE_PRESENT with the pair in *pair, or CONGEE_ABSENT if the map has no
+ * such pair, which leaves *pair unchanged. Returns CONGEE_BUSY, which leaves the map and *pair unchanged, if a lock of
+ * the call was taken at each of its tries. The call takes no memory. */
 static inline int congee_shared_try_first(const struct congee_shared *map, struct congee_pair *pair) {
     struct congee_const_shared_handle handle = {map};
     struct congee_pair it = {0, 0};
@@ -399,8 +424,9 @@ static inline int congee_shared_try_first(const struct congee_shared *map, struc
     return code;
 }
 
-/* Finds the pair with the least key. Waits while the map is busy. Returns CONGEE_PRESENT with the pair in *pair, or
- * CONGEE_ABSENT where there is none. */
+/* Finds the pair with the least key. Returns CONGEE_PRESENT with the pair in *pair, or CONGEE_ABSENT if the map has no
+ * such pair, which leaves *pair unchanged. While a lock of the call is taken, the call yields and tries again. The call
+ * takes no memory. */
 static inline int congee_shared_first(const struct congee_shared *map, struct congee_pair *pair) {
     struct congee_pair it = {0, 0};
     int code;
@@ -413,8 +439,9 @@ static inline int congee_shared_first(const struct congee_shared *map, struct co
     return 1;
 }
 
-/* Finds the pair with the greatest key. Returns CONGEE_PRESENT with the pair in *pair, or CONGEE_ABSENT where there
- * is none. Returns CONGEE_BUSY if a lock was taken at each of its tries. */
+/* Finds the pair with the greatest key. Returns CONGEE_PRESENT with the pair in *pair, or CONGEE_ABSENT if the map has
+ * no such pair, which leaves *pair unchanged. Returns CONGEE_BUSY, which leaves the map and *pair unchanged, if a lock
+ * of the call was taken at each of its tries. The call takes no memory. */
 static inline int congee_shared_try_last(const struct congee_shared *map, struct congee_pair *pair) {
     struct congee_const_shared_handle handle = {map};
     struct congee_pair it = {0, 0};
@@ -424,8 +451,9 @@ static inline int congee_shared_try_last(const struct congee_shared *map, struct
     return code;
 }
 
-/* Finds the pair with the greatest key. Waits while the map is busy. Returns CONGEE_PRESENT with the pair in *pair,
- * or CONGEE_ABSENT where there is none. */
+/* Finds the pair with the greatest key. Returns CONGEE_PRESENT with the pair in *pair, or CONGEE_ABSENT if the map has
+ * no such pair, which leaves *pair unchanged. While a lock of the call is taken, the call yields and tries again. The
+ * call takes no memory. */
 static inline int congee_shared_last(const struct congee_shared *map, struct congee_pair *pair) {
     struct congee_pair it = {0, 0};
     int code;
@@ -438,8 +466,9 @@ static inline int congee_shared_last(const struct congee_shared *map, struct con
     return 1;
 }
 
-/* Finds the pair with the greatest key that is at most this one. Returns CONGEE_PRESENT with the pair in *pair, or
- * CONGEE_ABSENT where there is none. Returns CONGEE_BUSY if a lock was taken at each of its tries. */
+/* Finds the pair with the greatest key that is at most `key`. Returns CONGEE_PRESENT with the pair in *pair, or
+ * CONGEE_ABSENT if the map has no such pair, which leaves *pair unchanged. Returns CONGEE_BUSY, which leaves the map
+ * and *pair unchanged, if a lock of the call was taken at each of its tries. The call takes no memory. */
 static inline int congee_shared_try_floor(const struct congee_shared *map, uint64_t key, struct congee_pair *pair) {
     struct congee_const_shared_handle handle = {map};
     struct congee_pair it = {0, 0};
@@ -449,8 +478,9 @@ static inline int congee_shared_try_floor(const struct congee_shared *map, uint6
     return code;
 }
 
-/* Finds the pair with the greatest key that is at most this one. Waits while the map is busy. Returns CONGEE_PRESENT
- * with the pair in *pair, or CONGEE_ABSENT where there is none. */
+/* Finds the pair with the greatest key that is at most `key`. Returns CONGEE_PRESENT with the pair in *pair, or
+ * CONGEE_ABSENT if the map has no such pair, which leaves *pair unchanged. While a lock of the call is taken, the call
+ * yields and tries again. The call takes no memory. */
 static inline int congee_shared_floor(const struct congee_shared *map, uint64_t key, struct congee_pair *pair) {
     struct congee_pair it = {0, 0};
     int code;
@@ -463,8 +493,9 @@ static inline int congee_shared_floor(const struct congee_shared *map, uint64_t 
     return 1;
 }
 
-/* Finds the pair with the least key that is at least this one. Returns CONGEE_PRESENT with the pair in *pair, or
- * CONGEE_ABSENT where there is none. Returns CONGEE_BUSY if a lock was taken at each of its tries. */
+/* Finds the pair with the least key that is at least `key`. Returns CONGEE_PRESENT with the pair in *pair, or
+ * CONGEE_ABSENT if the map has no such pair, which leaves *pair unchanged. Returns CONGEE_BUSY, which leaves the map
+ * and *pair unchanged, if a lock of the call was taken at each of its tries. The call takes no memory. */
 static inline int congee_shared_try_ceiling(const struct congee_shared *map, uint64_t key, struct congee_pair *pair) {
     struct congee_const_shared_handle handle = {map};
     struct congee_pair it = {0, 0};
@@ -474,8 +505,9 @@ static inline int congee_shared_try_ceiling(const struct congee_shared *map, uin
     return code;
 }
 
-/* Finds the pair with the least key that is at least this one. Waits while the map is busy. Returns CONGEE_PRESENT
- * with the pair in *pair, or CONGEE_ABSENT where there is none. */
+/* Finds the pair with the least key that is at least `key`. Returns CONGEE_PRESENT with the pair in *pair, or
+ * CONGEE_ABSENT if the map has no such pair, which leaves *pair unchanged. While a lock of the call is taken, the call
+ * yields and tries again. The call takes no memory. */
 static inline int congee_shared_ceiling(const struct congee_shared *map, uint64_t key, struct congee_pair *pair) {
     struct congee_pair it = {0, 0};
     int code;
@@ -488,8 +520,9 @@ static inline int congee_shared_ceiling(const struct congee_shared *map, uint64_
     return 1;
 }
 
-/* Finds the pair with the greatest key that is below this one. Returns CONGEE_PRESENT with the pair in *pair, or
- * CONGEE_ABSENT where there is none. Returns CONGEE_BUSY if a lock was taken at each of its tries. */
+/* Finds the pair with the greatest key below `key`. Returns CONGEE_PRESENT with the pair in *pair, or CONGEE_ABSENT if
+ * the map has no such pair, which leaves *pair unchanged. Returns CONGEE_BUSY, which leaves the map and *pair
+ * unchanged, if a lock of the call was taken at each of its tries. The call takes no memory. */
 static inline int congee_shared_try_below(const struct congee_shared *map, uint64_t key, struct congee_pair *pair) {
     struct congee_const_shared_handle handle = {map};
     struct congee_pair it = {0, 0};
@@ -499,8 +532,9 @@ static inline int congee_shared_try_below(const struct congee_shared *map, uint6
     return code;
 }
 
-/* Finds the pair with the greatest key that is below this one. Waits while the map is busy. Returns CONGEE_PRESENT
- * with the pair in *pair, or CONGEE_ABSENT where there is none. */
+/* Finds the pair with the greatest key below `key`. Returns CONGEE_PRESENT with the pair in *pair, or CONGEE_ABSENT if
+ * the map has no such pair, which leaves *pair unchanged. While a lock of the call is taken, the call yields and tries
+ * again. The call takes no memory. */
 static inline int congee_shared_below(const struct congee_shared *map, uint64_t key, struct congee_pair *pair) {
     struct congee_pair it = {0, 0};
     int code;
@@ -513,8 +547,9 @@ static inline int congee_shared_below(const struct congee_shared *map, uint64_t 
     return 1;
 }
 
-/* Finds the pair with the least key that is above this one. Returns CONGEE_PRESENT with the pair in *pair, or
- * CONGEE_ABSENT where there is none. Returns CONGEE_BUSY if a lock was taken at each of its tries. */
+/* Finds the pair with the least key above `key`. Returns CONGEE_PRESENT with the pair in *pair, or CONGEE_ABSENT if the
+ * map has no such pair, which leaves *pair unchanged. Returns CONGEE_BUSY, which leaves the map and *pair unchanged, if
+ * a lock of the call was taken at each of its tries. The call takes no memory. */
 static inline int congee_shared_try_above(const struct congee_shared *map, uint64_t key, struct congee_pair *pair) {
     struct congee_const_shared_handle handle = {map};
     struct congee_pair it = {0, 0};
@@ -524,8 +559,9 @@ static inline int congee_shared_try_above(const struct congee_shared *map, uint6
     return code;
 }
 
-/* Finds the pair with the least key that is above this one. Waits while the map is busy. Returns CONGEE_PRESENT with
- * the pair in *pair, or CONGEE_ABSENT where there is none. */
+/* Finds the pair with the least key above `key`. Returns CONGEE_PRESENT with the pair in *pair, or CONGEE_ABSENT if the
+ * map has no such pair, which leaves *pair unchanged. While a lock of the call is taken, the call yields and tries
+ * again. The call takes no memory. */
 static inline int congee_shared_above(const struct congee_shared *map, uint64_t key, struct congee_pair *pair) {
     struct congee_pair it = {0, 0};
     int code;
@@ -538,8 +574,9 @@ static inline int congee_shared_above(const struct congee_shared *map, uint64_t 
     return 1;
 }
 
-/* Removes the pair with the least key. Is never out of memory. Returns CONGEE_PRESENT with the pair in *pair, or
- * CONGEE_ABSENT where there is none. Returns CONGEE_BUSY if a lock was taken at each of its tries. */
+/* Removes the pair with the least key. Returns CONGEE_PRESENT with the removed pair in *pair, or CONGEE_ABSENT for an
+ * empty map, which leaves *pair unchanged. Returns CONGEE_BUSY, which leaves the map and *pair unchanged, if a lock of
+ * the call was taken at each of its tries. A pop is never out of memory. */
 static inline int congee_shared_try_pop_first(struct congee_shared *map, struct congee_pair *pair) {
     struct congee_shared_handle handle = {map};
     struct congee_pair it = {0, 0};
@@ -549,8 +586,9 @@ static inline int congee_shared_try_pop_first(struct congee_shared *map, struct 
     return code;
 }
 
-/* Removes the pair with the least key. Is never out of memory. Waits while the map is busy. Returns CONGEE_PRESENT
- * with the pair in *pair, or CONGEE_ABSENT where there is none. */
+/* Removes the pair with the least key. Returns CONGEE_PRESENT with the removed pair in *pair, or CONGEE_ABSENT for an
+ * empty map, which leaves *pair unchanged. While a lock of the call is taken, the call yields and tries again. A pop is
+ * never out of memory. */
 static inline int congee_shared_pop_first(struct congee_shared *map, struct congee_pair *pair) {
     struct congee_pair it = {0, 0};
     int code;
@@ -563,8 +601,9 @@ static inline int congee_shared_pop_first(struct congee_shared *map, struct cong
     return 1;
 }
 
-/* Removes the pair with the greatest key. Is never out of memory. Returns CONGEE_PRESENT with the pair in *pair, or
- * CONGEE_ABSENT where there is none. Returns CONGEE_BUSY if a lock was taken at each of its tries. */
+/* Removes the pair with the greatest key. Returns CONGEE_PRESENT with the removed pair in *pair, or CONGEE_ABSENT for
+ * an empty map, which leaves *pair unchanged. Returns CONGEE_BUSY, which leaves the map and *pair unchanged, if a lock
+ * of the call was taken at each of its tries. A pop is never out of memory. */
 static inline int congee_shared_try_pop_last(struct congee_shared *map, struct congee_pair *pair) {
     struct congee_shared_handle handle = {map};
     struct congee_pair it = {0, 0};
@@ -574,8 +613,9 @@ static inline int congee_shared_try_pop_last(struct congee_shared *map, struct c
     return code;
 }
 
-/* Removes the pair with the greatest key. Is never out of memory. Waits while the map is busy. Returns CONGEE_PRESENT
- * with the pair in *pair, or CONGEE_ABSENT where there is none. */
+/* Removes the pair with the greatest key. Returns CONGEE_PRESENT with the removed pair in *pair, or CONGEE_ABSENT for
+ * an empty map, which leaves *pair unchanged. While a lock of the call is taken, the call yields and tries again. A pop
+ * is never out of memory. */
 static inline int congee_shared_pop_last(struct congee_shared *map, struct congee_pair *pair) {
     struct congee_pair it = {0, 0};
     int code;
@@ -590,22 +630,22 @@ static inline int congee_shared_pop_last(struct congee_shared *map, struct conge
 
 /* -- Many pairs and counts -- */
 
-/* Removes all pairs at one moment. Other calls are busy meanwhile. Is never out of memory. Returns CONGEE_DONE.
- * Returns CONGEE_BUSY if a lock was taken at each of its tries. Then nothing has changed. */
+/* Removes all pairs at one moment. Returns CONGEE_DONE, or CONGEE_BUSY, with nothing changed, if a lock of the call was
+ * taken at each of its tries. Other calls are busy meanwhile. The call is never out of memory. */
 static inline int congee_shared_try_clear(struct congee_shared *map) {
     struct congee_shared_handle handle = {map};
     return congee_c_shared_clear(&handle);
 }
 
-/* Removes all pairs at one moment. Other calls are busy meanwhile. Is never out of memory. Waits while the map is
- * busy. */
+/* Removes all pairs at one moment. While a lock of the call is taken, the call yields and tries again. Other calls are
+ * busy meanwhile. The call is never out of memory. */
 static inline void congee_shared_clear(struct congee_shared *map) {
     while (congee_shared_try_clear(map) == CONGEE_BUSY)
         CONGEE_YIELD();
 }
 
-/* Whether there is no pair. Returns 1 where there is no pair, and 0 where there is one. Returns CONGEE_BUSY if a lock
- * was taken at each of its tries. */
+/* Tests whether the map has no pair. Returns 1 for an empty map, and 0 for a map with a pair. Returns CONGEE_BUSY if a
+ * lock of the call was taken at each of its tries. The call takes no memory. */
 static inline int congee_shared_try_is_empty(const struct congee_shared *map) {
     struct congee_const_shared_handle handle = {map};
     uint64_t it = 0;
@@ -613,7 +653,8 @@ static inline int congee_shared_try_is_empty(const struct congee_shared *map) {
     return code == 0 ? it != 0 : code;
 }
 
-/* Whether there is no pair. Waits while the map is busy. */
+/* Tests whether the map has no pair. Returns true for an empty map, and false for a map with a pair. While a lock of
+ * the call is taken, the call yields and tries again. The call takes no memory. */
 static inline bool congee_shared_is_empty(const struct congee_shared *map) {
     int code;
     while ((code = congee_shared_try_is_empty(map)) == CONGEE_BUSY)
@@ -622,7 +663,8 @@ static inline bool congee_shared_is_empty(const struct congee_shared *map) {
 }
 
 /* Counts the pairs, in constant time for each shard. Returns CONGEE_DONE with the number in *count, which isn't null.
- * It saturates at UINT64_MAX. Returns CONGEE_BUSY if a lock was taken at each of its tries. */
+ * The number is exact, and saturates at UINT64_MAX. Returns CONGEE_BUSY, which leaves *count unchanged, if a lock of
+ * the call was taken at each of its tries. The call takes no memory. */
 static inline int congee_shared_try_count(const struct congee_shared *map, uint64_t *count) {
     struct congee_const_shared_handle handle = {map};
     uint64_t it = 0;
@@ -632,8 +674,8 @@ static inline int congee_shared_try_count(const struct congee_shared *map, uint6
     return code;
 }
 
-/* Counts the pairs, in constant time for each shard, and returns their number, which saturates at UINT64_MAX. Waits
- * while the map is busy. */
+/* Counts the pairs, in constant time for each shard, and returns the number, which is exact and saturates at
+ * UINT64_MAX. While a lock of the call is taken, the call yields and tries again. The call takes no memory. */
 static inline uint64_t congee_shared_count(const struct congee_shared *map) {
     uint64_t count = 0;
     while (congee_shared_try_count(map, &count) == CONGEE_BUSY)
@@ -641,22 +683,22 @@ static inline uint64_t congee_shared_count(const struct congee_shared *map) {
     return count;
 }
 
-/* Adds up the stated sizes of the map's nodes in bytes, which its limit is for. Of this number it is proved that a
- * tree with as many pairs as there are is charged it. In shards it is so of each tree, and of the sum. Returns
- * CONGEE_DONE with the sum in *bytes, which isn't null. Returns CONGEE_BUSY if a lock was taken at each of its tries.
- */
+/* Adds up the stated sizes in bytes of the map's nodes, which count against the limit. Returns CONGEE_DONE with the sum
+ * in *bytes, which isn't null. The sum saturates at UINT64_MAX. Returns CONGEE_BUSY, which leaves *bytes unchanged, if
+ * a lock of the call was taken at each of its tries. Proved: a tree with as many pairs as the map had at one moment is
+ * charged the sum, in shards a tree for each shard. */
 static inline int congee_shared_try_charged(const struct congee_shared *map, uint64_t *bytes) {
     struct congee_const_shared_handle handle = {map};
-    uint64_t it = 0;
-    int code = congee_c_shared_charged(&handle, &it);
+    uint64_t it = 0, limit = 0;
+    int code = congee_c_shared_usage(&handle, &it, &limit);
     if (code == 0)
         *bytes = it;
     return code;
 }
 
-/* Adds up the stated sizes of the map's nodes in bytes, which its limit is for, and returns the sum. Waits while the
- * map is busy. Of this number it is proved that a tree with as many pairs as there are is charged it. In shards it is
- * so of each tree, and of the sum. */
+/* Adds up the stated sizes in bytes of the map's nodes, which count against the limit, and returns the sum, which
+ * saturates at UINT64_MAX. While a lock of the call is taken, the call yields and tries again. Proved: a tree with as
+ * many pairs as the map had at one moment is charged the sum, in shards a tree for each shard. */
 static inline uint64_t congee_shared_charged(const struct congee_shared *map) {
     uint64_t bytes = 0;
     while (congee_shared_try_charged(map, &bytes) == CONGEE_BUSY)
@@ -664,9 +706,36 @@ static inline uint64_t congee_shared_charged(const struct congee_shared *map) {
     return bytes;
 }
 
-/* Calls f(pair, with) for each pair with start <= key <= last, keys ascending, until a call returns something else
- * than 0. Returns what the last call returned, or 0 where there is no pair. Reads pages of 64 pairs of one moment
- * each. Between two pages other calls come in. f may call the map. Waits while the map is busy. */
+/* Adds up the stated sizes in bytes of the map's nodes, which count against the limit. Returns CONGEE_DONE with the sum
+ * in *charged and the map's limit in *limit. In shards the limit is the sum of the shards' limits. The sum is at most
+ * the limit, which is proved. Both pointers are to places, never null. Returns CONGEE_BUSY, which leaves both unchanged,
+ * if a lock of the call was taken at each of its tries. */
+static inline int congee_shared_try_usage(const struct congee_shared *map, uint64_t *charged, uint64_t *limit) {
+    struct congee_const_shared_handle handle = {map};
+    uint64_t bytes = 0, most = 0;
+    int code = congee_c_shared_usage(&handle, &bytes, &most);
+    if (code == 0) {
+        *charged = bytes;
+        *limit = most;
+    }
+    return code;
+}
+
+/* Adds up the stated sizes in bytes of the map's nodes, which count against the limit, with the sum in *charged and the
+ * map's limit in *limit. In shards the limit is the sum of the shards' limits. The sum is at most the limit, which is
+ * proved. Both pointers are to places, never null. While a lock of the call is taken, the call yields and tries again. */
+static inline void congee_shared_usage(const struct congee_shared *map, uint64_t *charged, uint64_t *limit) {
+    uint64_t bytes = 0, most = 0;
+    while (congee_shared_try_usage(map, &bytes, &most) == CONGEE_BUSY)
+        CONGEE_YIELD();
+    *charged = bytes;
+    *limit = most;
+}
+
+/* Calls f(pair, with) for each pair with start <= key <= last, keys ascending, until a call returns something else than
+ * 0. Returns what the last call of f returned, or 0 without a call. Reads pages of 64 pairs of one moment each. Between
+ * two pages calls of other handles come in. No lock is held while f runs, so f may call the map, by this handle too.
+ * While a lock is taken, the call yields and tries again. */
 static inline int congee_shared_each(const struct congee_shared *map, uint64_t start, uint64_t last, congee_visitor *f,
                                      void *with) {
     struct congee_pair page[64] = {{0, 0}};
@@ -684,9 +753,9 @@ static inline int congee_shared_each(const struct congee_shared *map, uint64_t s
     return 0;
 }
 
-/* Inserts n pairs in their order, a call of congee_shared_insert for each. Other calls may come in between two of
- * them. Returns how many it inserted: n, or fewer where the next one was out of memory. Those before it are in the
- * map. Waits while the map is busy. */
+/* Inserts n pairs in their order, by a call of congee_shared_insert for each. Between two of them calls of other
+ * handles come in. Returns how many pairs were inserted: n, or fewer if the next insertion was out of memory. The pairs
+ * before it are in the map. While a lock is taken, the call yields and tries again. */
 static inline size_t congee_shared_insert_many(struct congee_shared *map, const struct congee_pair *pairs, size_t n) {
     size_t done = 0;
     while (done < n && congee_shared_insert(map, pairs[done].key, pairs[done].value, NULL) != CONGEE_OOM)

@@ -1,5 +1,5 @@
-/* The page table of shared_page_table.c, which threads now read without a lock. The free frames stay in a map under a lock, since
- * frames are popped there. What is mapped is counted by a range, while nobody writes.
+/* The page table of shared_page_table.c, which threads now read without a lock. The free frames stay in a map under a lock, where
+ * a pop finds a frame whenever one is free. What is mapped is counted by a range, while nobody writes.
  *
  *     cc -Iinclude examples/c/live_page_table.c out/c-library/libcongee.a -pthread -o live_page_table */
 #include "congee.h"

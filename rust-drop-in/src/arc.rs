@@ -6,11 +6,22 @@ use std::fmt;
 use std::marker::PhantomData;
 use std::sync::Arc;
 
-/// A map from keys that are each a `usize` to owners.
+/// A map from keys that are each a `usize` to owners, over a [`LiveMap`](proved_congee::LiveMap). Threads share the map by
+/// `&`. Proved is the live map beneath, from keys to addresses. The counts of owners are this layer's, and tested.
 ///
-/// The map has one count of each owner, whose address is the key's value in the tree. A reader that found it takes one more
-/// while it has pinned the epoch. What a call took out keeps a count until no thread is pinned that was pinned then, whether by
-/// this map or by a guard of the caller's.
+/// The map has one count of each owner, whose address is the key's value in the tree. A reader that finds the address takes
+/// one more count while the reader has pinned the epoch. An owner that a call has removed keeps a count until all threads
+/// that were pinned then have unpinned, whether by this map or by a guard of the caller's.
+///
+/// ```
+/// use congee::CongeeArc;
+/// use std::sync::Arc;
+///
+/// let map = CongeeArc::<usize, String>::new();
+/// let guard = map.pin();
+/// assert!(map.insert(7, Arc::new("b".into()), &guard).unwrap().is_none());
+/// assert_eq!(*map.get(7, &guard).unwrap(), "b");
+/// ```
 pub struct CongeeArc<K: From<usize> + Copy, V: Sync + Send + 'static>
 where
     usize: From<K>,
@@ -32,11 +43,20 @@ impl<K: From<usize> + Copy, V: Sync + Send + 'static> CongeeArc<K, V>
 where
     usize: From<K>,
 {
-    /// An empty map.
+    /// Makes an empty map.
     ///
     /// # Panics
     ///
     /// If there is no memory.
+    ///
+    /// ```
+    /// use congee::CongeeArc;
+    /// use std::sync::Arc;
+    ///
+    /// let map = CongeeArc::<usize, String>::new();
+    /// let guard = map.pin();
+    /// assert!(map.is_empty(&guard));
+    /// ```
     pub fn new() -> Self {
         CongeeArc {
             tree: Tree::with_limit(u64::MAX).expect("there is no memory for a map"),
@@ -44,17 +64,48 @@ where
         }
     }
 
-    /// A guard of the epoch. While it is there, the map keeps a count of each owner that is taken out.
+    /// Returns a guard of the epoch. While the guard lives, the map keeps a count of each removed owner.
+    ///
+    /// ```
+    /// use congee::CongeeArc;
+    /// use std::sync::Arc;
+    ///
+    /// let map = CongeeArc::<usize, String>::new();
+    /// let guard = map.pin();
+    /// map.insert(7, Arc::new("b".into()), &guard).unwrap();
+    /// assert_eq!(map.keys(), [7]);
+    /// ```
     pub fn pin(&self) -> epoch::Guard {
         epoch::pin()
     }
 
-    /// Whether there is no pair.
+    /// Returns whether the map has no pair, by a search for the first pair.
+    ///
+    /// ```
+    /// use congee::CongeeArc;
+    /// use std::sync::Arc;
+    ///
+    /// let map = CongeeArc::<usize, String>::new();
+    /// let guard = map.pin();
+    /// map.insert(7, Arc::new("b".into()), &guard).unwrap();
+    /// assert!(!map.is_empty(&guard));
+    /// ```
     pub fn is_empty(&self, _guard: &epoch::Guard) -> bool {
         self.tree.with(|handle| handle.is_empty())
     }
 
-    /// One more owner of the key's value.
+    /// Returns one more owner of the key's value, or `None` if the key is absent.
+    ///
+    /// ```
+    /// use congee::CongeeArc;
+    /// use std::sync::Arc;
+    ///
+    /// let map = CongeeArc::<usize, String>::new();
+    /// let guard = map.pin();
+    /// map.insert(7, Arc::new("b".into()), &guard).unwrap();
+    /// assert_eq!(map.get(7, &guard).as_deref().map(String::as_str), Some("b"));
+    /// ```
+    #[doc(alias("find", "index"))]
     #[inline]
     pub fn get(&self, key: K, _guard: &epoch::Guard) -> Option<Arc<V>> {
         // (the caller's guard may be of another collector, or protect nothing)
@@ -64,7 +115,20 @@ where
         Some(unsafe { one_more(address) })
     }
 
-    /// Sets the key's value, and returns the previous one. Where there is no memory, the new one is dropped.
+    /// Sets the key's value, and returns the previous owner, or `None` for a new key. Returns [`OOMError`], with the new
+    /// owner dropped and no pair changed, if there is no memory.
+    ///
+    /// ```
+    /// use congee::CongeeArc;
+    /// use std::sync::Arc;
+    ///
+    /// let map = CongeeArc::<usize, String>::new();
+    /// let guard = map.pin();
+    /// map.insert(7, Arc::new("b".into()), &guard).unwrap();
+    /// let before = map.insert(7, Arc::new("c".into()), &guard).unwrap();
+    /// assert_eq!(*before.unwrap(), "b");
+    /// ```
+    #[doc(alias("put", "upsert"))]
     pub fn insert(
         &self,
         key: K,
@@ -84,7 +148,19 @@ where
         }
     }
 
-    /// Takes the key out, and returns its value.
+    /// Removes the key, and returns its owner, or `None` if the key was absent.
+    ///
+    /// ```
+    /// use congee::CongeeArc;
+    /// use std::sync::Arc;
+    ///
+    /// let map = CongeeArc::<usize, String>::new();
+    /// let guard = map.pin();
+    /// map.insert(7, Arc::new("b".into()), &guard).unwrap();
+    /// assert_eq!(*map.remove(7, &guard).unwrap(), "b");
+    /// assert!(map.get(7, &guard).is_none());
+    /// ```
+    #[doc(alias = "delete")]
     pub fn remove(&self, key: K, _guard: &epoch::Guard) -> Option<Arc<V>> {
         let pinned = epoch::pin();
         let address = self.tree.with(|handle| handle.remove(word(key)))?;
@@ -92,8 +168,21 @@ where
         Some(unsafe { taken_out(address, &pinned) })
     }
 
-    /// Calls the closure with an owner of the key's value, and puts there what it returns, or takes the key out for `None`.
-    /// Returns the value before. Without a value it isn't called. It may be called again.
+    /// Calls the closure with an owner of a present key's value. Stores the owner that the closure returns, or removes the
+    /// key for `None`. Returns the owner before, or `None` if the key is absent. The closure is called while nothing is
+    /// locked. If another thread changes the key meanwhile, the closure is called again with the new value.
+    ///
+    /// ```
+    /// use congee::CongeeArc;
+    /// use std::sync::Arc;
+    ///
+    /// let map = CongeeArc::<usize, String>::new();
+    /// let guard = map.pin();
+    /// map.insert(7, Arc::new("b".into()), &guard).unwrap();
+    /// map.compute_if_present(7, |it| Some(Arc::new(it.to_uppercase())), &guard);
+    /// assert_eq!(*map.get(7, &guard).unwrap(), "B");
+    /// ```
+    #[doc(alias("alter", "and_modify", "compute", "get_mut", "update"))]
     pub fn compute_if_present<F>(&self, key: K, mut f: F, _guard: &epoch::Guard) -> Option<Arc<V>>
     where
         F: FnMut(Arc<V>) -> Option<Arc<V>>,
@@ -116,7 +205,19 @@ where
         }
     }
 
-    /// All keys, ascending. Not of one moment: a key that stays is among them.
+    /// Returns all keys, ascending. Each key is read at a moment of the call, and a key that is present throughout the call
+    /// is returned.
+    ///
+    /// ```
+    /// use congee::CongeeArc;
+    /// use std::sync::Arc;
+    ///
+    /// let map = CongeeArc::<usize, String>::new();
+    /// let guard = map.pin();
+    /// map.insert(7, Arc::new("b".into()), &guard).unwrap();
+    /// assert_eq!(map.keys(), [7]);
+    /// ```
+    #[doc(alias = "iter")]
     pub fn keys(&self) -> Vec<K> {
         self.tree.keys(|key| K::from(key as usize))
     }

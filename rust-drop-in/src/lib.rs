@@ -16,18 +16,18 @@
 //! assert_eq!(map.get(&1, &guard), Some(43));
 //! ```
 //!
-//! What differs from that crate:
+//! Proved is the live map beneath: calls of one key are sequentially consistent. This layer is tested. Differences from the crate:
 //!
 //! - [`OOMError`] can be named. [`Allocator`] is for two types of this crate: [`DefaultAllocator`], and [`Limit`] for a map
-//!   whose nodes may take so many bytes. (There no program can implement it, as its error has no name outside.)
-//! - A drainer is `Send`, since the map that calls it is.
+//!   whose nodes take at most so many bytes. (No program can implement the crate's trait, whose error has no public name.)
+//! - A drainer is `Send`, since the map that calls the drainer is `Send`.
 //! - [`Congee::is_empty`] is true exactly for a map without pairs.
-//! - [`Congee::stats`] is of a tree made afresh of the keys, and reads them all.
-//! - Closures are called while nothing is locked, and again where another thread changed the key meanwhile. Owners that a
-//!   closure returned in vain are dropped.
-//! - A thread takes a handle of a map at its first call of it. One that inserts has up to 512 KB of room for nodes to itself.
-//!   The handle is free for another thread once its thread has ended.
-//! - A [`CongeeArc`] pins the epoch in each call. So it needs no guard, and takes one for the signature.
+//! - [`Congee::stats`] is of a tree made anew from the keys, and reads all keys.
+//! - Closures are called while nothing is locked, and again if another thread changes the key meanwhile. Owners that a closure
+//!   returned in vain are dropped.
+//! - A thread takes a handle of a map at its first call. A thread that inserts owns up to 512 KB of free nodes. Another thread
+//!   gets the handle once the first thread has ended.
+//! - A [`CongeeArc`] pins the epoch in each call. So the map needs no guard, and takes a guard for the signature alone.
 
 #![warn(missing_docs, missing_debug_implementations)]
 
@@ -56,14 +56,19 @@ pub mod epoch {
     pub use crossbeam_epoch::{pin, Guard};
 }
 
-/// There is no memory for another node, or the map's limit is reached. The call has changed nothing.
+/// The error of a call that may take memory: there is no memory, or the map's limit is reached. The call has changed no
+/// pair.
 #[derive(Clone, Copy, PartialEq, Eq)]
 pub struct OOMError {
     _private: (),
 }
 
 impl OOMError {
-    /// The error.
+    /// Makes the error.
+    ///
+    /// ```
+    /// assert_eq!(format!("{:?}", congee::OOMError::new()), "OOMError");
+    /// ```
     pub fn new() -> OOMError {
         OOMError { _private: () }
     }
@@ -99,13 +104,13 @@ mod sealed {
     pub trait Sealed {}
 }
 
-/// What bounds a map's memory. The memory itself is `malloc`'s.
+/// A bound on a map's memory. The memory itself is `malloc`'s.
 pub trait Allocator: sealed::Sealed {
     /// The bytes that the segments of the map's nodes may take.
     fn limit(&self) -> u64;
 }
 
-/// No bound.
+/// No bound on a map's memory.
 #[derive(Clone, Debug)]
 pub struct DefaultAllocator {}
 
@@ -117,7 +122,7 @@ impl Allocator for DefaultAllocator {
     }
 }
 
-/// So many bytes, as [`LiveMap::with_limit`](proved_congee::LiveMap::with_limit) counts them.
+/// A bound in bytes on a map's memory, as [`LiveMap::with_limit`](proved_congee::LiveMap::with_limit) counts them.
 #[derive(Clone, Debug)]
 pub struct Limit(pub u64);
 

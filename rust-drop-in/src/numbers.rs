@@ -10,7 +10,18 @@ type Types<K, V, A> = PhantomData<(K, V, fn() -> A)>;
 
 type Drainer = Mutex<Box<dyn Fn(u64, u64) + Send>>;
 
-/// A map from keys to values that are each a `usize`.
+/// A map from keys to values that are each a `usize`, over a [`LiveMap`](proved_congee::LiveMap). Threads share the map by
+/// `&`. Proved is the live map beneath: calls of one key are sequentially consistent. This layer with the crate's names and
+/// closures is tested.
+///
+/// ```
+/// use congee::Congee;
+///
+/// let map = Congee::<usize, usize>::default();
+/// let guard = map.pin();
+/// assert_eq!(map.insert(7, 70, &guard).unwrap(), None);
+/// assert_eq!(map.get(&7, &guard), Some(70));
+/// ```
 pub struct Congee<
     K: Copy + From<usize>,
     V: Copy + From<usize>,
@@ -40,11 +51,18 @@ where
     usize: From<K>,
     usize: From<V>,
 {
-    /// An empty map.
+    /// Makes an empty map.
     ///
     /// # Panics
     ///
     /// If there is no memory, or the limit is below a map's first segment.
+    ///
+    /// ```
+    /// use congee::{Congee, Limit};
+    ///
+    /// let map = Congee::<usize, usize, Limit>::new(Limit(1_000_000));
+    /// assert!(map.is_empty(&map.pin()));
+    /// ```
     pub fn new(allocator: A) -> Self {
         Congee {
             tree: Tree::with_limit(allocator.limit()).expect("there is no memory for a map"),
@@ -53,11 +71,24 @@ where
         }
     }
 
-    /// An empty map. What is left in it when it is dropped is handed to the closure, keys ascending.
+    /// Makes an empty map. When the map is dropped, its remaining pairs are handed to the closure, keys ascending.
     ///
     /// # Panics
     ///
-    /// As [`new`](Congee::new).
+    /// If there is no memory, or the limit is below a map's first segment.
+    ///
+    /// ```
+    /// use congee::{Congee, DefaultAllocator};
+    /// use std::sync::mpsc::channel;
+    ///
+    /// let (left, found) = channel();
+    /// let map = Congee::<usize, usize>::new_with_drainer(DefaultAllocator {}, move |key, value| {
+    ///     left.send((key, value)).unwrap();
+    /// });
+    /// map.insert(7, 70, &map.pin()).unwrap();
+    /// drop(map);
+    /// assert!(found.iter().eq([(7, 70)]));
+    /// ```
     pub fn new_with_drainer(allocator: A, drainer: impl Fn(K, V) + Send + 'static) -> Self {
         let mut map = Self::new(allocator);
         map.drainer = Some(Mutex::new(Box::new(move |key, value| {
@@ -66,38 +97,104 @@ where
         map
     }
 
-    /// A guard of the epoch. One is enough for many calls.
+    /// Returns a guard of the epoch. One guard is enough for many calls.
+    ///
+    /// ```
+    /// use congee::Congee;
+    ///
+    /// let map = Congee::<usize, usize>::default();
+    /// let guard = map.pin();
+    /// for key in 0..100 {
+    ///     map.insert(key, key, &guard).unwrap();
+    /// }
+    /// assert_eq!(map.keys().len(), 100);
+    /// ```
     #[inline]
     pub fn pin(&self) -> epoch::Guard {
         epoch::pin()
     }
 
-    /// The key's value.
+    /// Returns the value at the key, or `None` if the key is absent.
+    ///
+    /// ```
+    /// use congee::Congee;
+    ///
+    /// let map = Congee::<usize, usize>::default();
+    /// let guard = map.pin();
+    /// map.insert(7, 70, &guard).unwrap();
+    /// assert_eq!((map.get(&7, &guard), map.get(&8, &guard)), (Some(70), None));
+    /// ```
+    #[doc(alias("find", "index"))]
     #[inline]
     pub fn get(&self, key: &K, _guard: &epoch::Guard) -> Option<V> {
         self.tree.get(word(*key)).map(typed)
     }
 
-    /// Whether there is no pair.
+    /// Returns whether the map has no pair, by a search for the first pair.
+    ///
+    /// ```
+    /// use congee::Congee;
+    ///
+    /// let map = Congee::<usize, usize>::default();
+    /// let guard = map.pin();
+    /// assert!(map.is_empty(&guard));
+    /// map.insert(7, 70, &guard).unwrap();
+    /// assert!(!map.is_empty(&guard));
+    /// ```
     pub fn is_empty(&self, _guard: &epoch::Guard) -> bool {
         self.tree.with(|handle| handle.is_empty())
     }
 
-    /// Sets the key's value, and returns the previous one.
+    /// Sets the key's value, and returns the previous value, or `None` for a new key. Returns [`OOMError`], with no pair
+    /// changed, only for an absent key, if there is no memory or the limit is reached.
+    ///
+    /// ```
+    /// use congee::Congee;
+    ///
+    /// let map = Congee::<usize, usize>::default();
+    /// let guard = map.pin();
+    /// assert_eq!(map.insert(7, 70, &guard).unwrap(), None);
+    /// assert_eq!(map.insert(7, 71, &guard).unwrap(), Some(70));
+    /// ```
+    #[doc(alias("put", "upsert"))]
     #[inline]
     pub fn insert(&self, k: K, v: V, _guard: &epoch::Guard) -> Result<Option<V>, OOMError> {
         let before = self.tree.with(|handle| handle.insert(word(k), word(v)))?;
         Ok(before.map(typed))
     }
 
-    /// Takes the key out, and returns its value.
+    /// Removes the key, and returns the removed value, or `None` if the key was absent.
+    ///
+    /// ```
+    /// use congee::Congee;
+    ///
+    /// let map = Congee::<usize, usize>::default();
+    /// let guard = map.pin();
+    /// map.insert(7, 70, &guard).unwrap();
+    /// assert_eq!((map.remove(&7, &guard), map.remove(&7, &guard)), (Some(70), None));
+    /// ```
+    #[doc(alias = "delete")]
     #[inline]
     pub fn remove(&self, k: &K, _guard: &epoch::Guard) -> Option<V> {
         self.tree.with(|handle| handle.remove(word(*k))).map(typed)
     }
 
-    /// Writes the first pairs with `start <= key < end` to the buffer, as many as there are or as fit, keys ascending, and
-    /// returns how many. The rest of the buffer stays as it is.
+    /// Writes the first pairs with `start <= key < end` to the buffer, keys ascending, and returns how many pairs fit. The
+    /// pairs are no snapshot: each key is read at a moment of the call, and a key that is present throughout the call is
+    /// written. The rest of the buffer is unchanged.
+    ///
+    /// ```
+    /// use congee::Congee;
+    ///
+    /// let map = Congee::<usize, usize>::default();
+    /// let guard = map.pin();
+    /// map.insert(7, 70, &guard).unwrap();
+    /// map.insert(9, 90, &guard).unwrap();
+    /// let mut page = [(0, 0); 4];
+    /// assert_eq!(map.range(&0, &9, &mut page, &guard), 1);
+    /// assert_eq!(page[0], (7, 70));
+    /// ```
+    #[doc(alias = "scan")]
     #[inline]
     pub fn range(
         &self,
@@ -111,8 +208,20 @@ where
         })
     }
 
-    /// Calls the closure with the key's value, and puts there what it returns, or takes the key out for `None`. Returns the
-    /// value before and the one after. Without a value it isn't called. It may be called again.
+    /// Calls the closure with the value of a present key. Stores the value that the closure returns, or removes the key for
+    /// `None`. Returns the value before and the value after, or `None` if the key is absent. The closure is called while
+    /// nothing is locked. If another thread changes the key meanwhile, the closure is called again with the new value.
+    ///
+    /// ```
+    /// use congee::Congee;
+    ///
+    /// let map = Congee::<usize, usize>::default();
+    /// let guard = map.pin();
+    /// map.insert(7, 70, &guard).unwrap();
+    /// assert_eq!(map.compute_if_present(&7, |value| Some(value + 1), &guard), Some((70, Some(71))));
+    /// assert_eq!(map.compute_if_present(&8, |value| Some(value + 1), &guard), None);
+    /// ```
+    #[doc(alias("alter", "and_modify", "compute", "get_mut", "update"))]
     pub fn compute_if_present<F>(
         &self,
         key: &K,
@@ -128,8 +237,22 @@ where
         Some((before as usize, after.map(|it| it as usize)))
     }
 
-    /// Calls the closure with the key's value, if there is one, and puts there what it returns. Returns the value before. It
-    /// may be called again.
+    /// Calls the closure with the key's value or `None`, and stores the value that the closure returns. Returns the value
+    /// before, or `None` for a new key. The closure is called while nothing is locked. If another thread changes the key
+    /// meanwhile, the closure is called again with the new value. Returns [`OOMError`], with no pair changed, only for an
+    /// absent key, if there is no memory or the limit is reached.
+    ///
+    /// ```
+    /// use congee::Congee;
+    ///
+    /// let map = Congee::<usize, usize>::default();
+    /// let guard = map.pin();
+    /// for _ in 0..3 {
+    ///     map.compute_or_insert(7, |count| count.unwrap_or(0) + 1, &guard).unwrap();
+    /// }
+    /// assert_eq!(map.get(&7, &guard), Some(3));
+    /// ```
+    #[doc(alias("compute", "entry", "or_insert"))]
     pub fn compute_or_insert<F>(
         &self,
         key: K,
@@ -145,8 +268,19 @@ where
         Ok(before.map(typed))
     }
 
-    /// Where the key has the old value, puts the new one there, or takes the key out for `None`, and returns it. Else the
-    /// error has the current value.
+    /// Replaces the key's value by `new` if the value is `old`, or removes the key for `None`, and returns `new`. Otherwise
+    /// changes nothing, and returns as an error the present value, or `None` if the key is absent.
+    ///
+    /// ```
+    /// use congee::Congee;
+    ///
+    /// let map = Congee::<usize, usize>::default();
+    /// let guard = map.pin();
+    /// map.insert(7, 70, &guard).unwrap();
+    /// assert_eq!(map.compare_exchange(&7, &70, Some(71), &guard), Ok(Some(71)));
+    /// assert_eq!(map.compare_exchange(&7, &70, None, &guard), Err(Some(71)));
+    /// ```
+    #[doc(alias("cas", "compare_and_swap", "remove_if"))]
     pub fn compare_exchange(
         &self,
         key: &K,
@@ -160,12 +294,34 @@ where
             .map_err(|found| found.map(typed))
     }
 
-    /// All keys, ascending. Not of one moment: a key that stays is among them.
+    /// Returns all keys, ascending. Each key is read at a moment of the call, and a key that is present throughout the call
+    /// is returned.
+    ///
+    /// ```
+    /// use congee::Congee;
+    ///
+    /// let map = Congee::<usize, usize>::default();
+    /// let guard = map.pin();
+    /// map.insert(7, 70, &guard).unwrap();
+    /// map.insert(5, 50, &guard).unwrap();
+    /// assert_eq!(map.keys(), [5, 7]);
+    /// ```
+    #[doc(alias = "iter")]
     pub fn keys(&self) -> Vec<K> {
         self.tree.keys(|key| K::from(key as usize))
     }
 
-    /// The nodes of a tree made afresh of the keys that are there.
+    /// Returns the nodes of a tree made anew from the present keys. Reads all keys.
+    ///
+    /// ```
+    /// use congee::Congee;
+    ///
+    /// let map = Congee::<usize, usize>::default();
+    /// let guard = map.pin();
+    /// map.insert(7, 70, &guard).unwrap();
+    /// assert!(format!("{:?}", map.stats()).contains("kv_pairs: 1"));
+    /// ```
+    #[doc(alias("len", "memory_usage"))]
     pub fn stats(&self) -> NodeStats {
         NodeStats::of(&self.tree.keys(|key| key))
     }

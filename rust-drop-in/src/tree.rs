@@ -4,7 +4,7 @@ use crate::handles::Tree;
 use proved_congee::{OutOfMemory, Pair};
 
 /// How many pairs are read at once.
-const PAGE: usize = 64;
+const PAGE: usize = 128;
 
 impl Tree {
     #[inline]

@@ -298,7 +298,11 @@ extern "C" {
     pub fn congee_c_shared_clear(handle: *mut SharedHandle) -> i32;
     pub fn congee_c_shared_is_empty(handle: *mut SharedHandle, out: *mut u64) -> i32;
     pub fn congee_c_shared_count(handle: *mut SharedHandle, out: *mut u64) -> i32;
-    pub fn congee_c_shared_charged(handle: *mut SharedHandle, out: *mut u64) -> i32;
+    pub fn congee_c_shared_usage(
+        handle: *mut SharedHandle,
+        charged: *mut u64,
+        limit: *mut u64,
+    ) -> i32;
     pub fn congee_c_live_new(limit: u64, out: *mut LiveHandle) -> i32;
     pub fn congee_c_live_limit(handle: *mut LiveHandle) -> u64;
     pub fn congee_c_live_charged(handle: *mut LiveHandle) -> u64;

@@ -1,5 +1,5 @@
-//! The page table of `shared_page_table`, which threads now read without a lock. The free frames stay in a map under a lock, since
-//! frames are popped there. What is mapped is counted by an iterator, while nobody writes.
+//! The page table of `shared_page_table`, which threads now read without a lock. The free frames stay in a map under a lock, where
+//! a pop finds a frame whenever one is free. What is mapped is counted by an iterator, while nobody writes.
 //!
 //!     cd rust && cargo run --example live_page_table
 
@@ -88,8 +88,7 @@ fn main() -> Result<(), OutOfMemory> {
         frames: SharedMap::new()?,
     };
     let task = space.task()?;
-    task.frames
-        .try_extend((0..FRAMES).map(|frame| (frame, 0)))?;
+    task.frames.extend((0..FRAMES).map(|frame| (frame, 0)))?;
     space.run(|task, number| {
         let mut state = number;
         for _ in 0..TOUCHES {

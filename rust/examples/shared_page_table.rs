@@ -86,8 +86,7 @@ fn main() -> Result<(), OutOfMemory> {
         frames: SharedMap::new()?,
     };
     let task = space.task()?;
-    task.frames
-        .try_extend((0..FRAMES).map(|frame| (frame, 0)))?;
+    task.frames.extend((0..FRAMES).map(|frame| (frame, 0)))?;
     space.run(|task, number| {
         let mut state = number;
         for _ in 0..TOUCHES {

@@ -12,10 +12,11 @@ use std::mem::ManuallyDrop;
 use std::ops::RangeBounds;
 use std::sync::{Mutex, PoisonError};
 
-/// A reader of a map that nobody changes, as [`Map::freeze`] returns it.
+/// A reader of a map that nobody changes, as [`Map::freeze`] returns it. A reader is one thread's at a time. Several
+/// readers, each on a thread of its own, read the same map side by side. The map is freed with its last reader.
 ///
-/// A reader is one thread's at a time. Several, each on a thread of its own, read the same map side by side. With the last
-/// of them the map is freed.
+/// Proved of the library beneath: a reader reads exactly the pairs that the map had when it was frozen, all readers read
+/// one map, and a thawed map has the same pairs. This wrapper is tested.
 ///
 /// ```
 /// # fn main() -> Result<(), proved_congee::OutOfMemory> {
@@ -63,7 +64,8 @@ impl Frozen {
         }
     }
 
-    /// One more reader of the same map. Takes a small block.
+    /// Makes one more reader of the same map, for another thread. Takes a small block. Returns [`OutOfMemory`] if there is
+    /// no memory for one.
     ///
     /// ```
     /// # fn main() -> Result<(), proved_congee::OutOfMemory> {
@@ -73,6 +75,7 @@ impl Frozen {
     /// # Ok(())
     /// # }
     /// ```
+    #[doc(alias = "clone")]
     pub fn try_clone(&self) -> Result<Frozen, OutOfMemory> {
         let mut made = FrozenHandle::none();
         match unsafe { congee_c_frozen_another(&mut self.handle(), &mut made) } {
@@ -81,7 +84,8 @@ impl Frozen {
         }
     }
 
-    /// The map, to change it again, if this is its last reader. Else the reader. Takes no memory.
+    /// Returns the map, to change it again, if this is its last reader. Otherwise the error has the reader. Takes no
+    /// memory.
     ///
     /// ```
     /// # fn main() -> Result<(), proved_congee::OutOfMemory> {
@@ -106,7 +110,7 @@ impl Frozen {
         }
     }
 
-    /// The value at the key.
+    /// Returns the value at the key, or `None` if the key is absent.
     ///
     /// ```
     /// # fn main() -> Result<(), proved_congee::OutOfMemory> {
@@ -116,13 +120,14 @@ impl Frozen {
     /// # Ok(())
     /// # }
     /// ```
+    #[doc(alias("find", "index", "view"))]
     pub fn get(&self, key: impl Borrow<u64>) -> Option<u64> {
         let mut value = 0;
         let code = unsafe { congee_c_frozen_get(&mut self.handle(), *key.borrow(), &mut value) };
         (code == 1).then_some(value)
     }
 
-    /// Whether the key is there.
+    /// Returns whether the map has the key.
     ///
     /// ```
     /// # fn main() -> Result<(), proved_congee::OutOfMemory> {
@@ -132,11 +137,13 @@ impl Frozen {
     /// # Ok(())
     /// # }
     /// ```
+    #[doc(alias = "contains")]
     pub fn contains_key(&self, key: impl Borrow<u64>) -> bool {
         self.get(key).is_some()
     }
 
-    /// Writes the first pairs with `start <= key < end` to the buffer, as [`Map::read_range`].
+    /// Writes the first pairs with `start <= key < end` to the buffer, keys ascending, and returns how many pairs fit.
+    /// `u64::MAX` is in no such range. The rest of the buffer is unchanged.
     ///
     /// ```
     /// # fn main() -> Result<(), proved_congee::OutOfMemory> {
@@ -148,6 +155,7 @@ impl Frozen {
     /// # Ok(())
     /// # }
     /// ```
+    #[doc(alias("page", "scan"))]
     pub fn read_range(&self, start: u64, end: u64, buffer: &mut [Pair]) -> usize {
         unsafe {
             congee_c_frozen_range(
@@ -160,7 +168,8 @@ impl Frozen {
         }
     }
 
-    /// Writes the first pairs with `start <= key <= last` to the buffer, as [`Map::read_range_inclusive`].
+    /// Writes the first pairs with `start <= key <= last` to the buffer, keys ascending, and returns how many pairs fit.
+    /// The rest of the buffer is unchanged.
     ///
     /// ```
     /// # fn main() -> Result<(), proved_congee::OutOfMemory> {
@@ -177,7 +186,8 @@ impl Frozen {
         unsafe { congee_c_frozen_range_inclusive(&mut self.handle(), start, last, place, n) }
     }
 
-    /// The same with keys descending, as [`Map::read_range_descending`].
+    /// Writes the last pairs with `start <= key <= last` to the buffer, keys descending, and returns how many pairs fit.
+    /// The rest of the buffer is unchanged.
     ///
     /// ```
     /// # fn main() -> Result<(), proved_congee::OutOfMemory> {
@@ -194,7 +204,7 @@ impl Frozen {
         unsafe { congee_c_frozen_range_descending(&mut self.handle(), start, last, place, n) }
     }
 
-    /// The pair with the least key, as [`Map::first`].
+    /// Returns the pair with the least key, or `None` for an empty map.
     ///
     /// ```
     /// # fn main() -> Result<(), proved_congee::OutOfMemory> {
@@ -204,12 +214,12 @@ impl Frozen {
     /// # Ok(())
     /// # }
     /// ```
-    #[doc(alias = "first_key_value")]
+    #[doc(alias("first_entry", "first_key_value", "min", "peek"))]
     pub fn first(&self) -> Option<(u64, u64)> {
         self.ceiling(0)
     }
 
-    /// The pair with the greatest key, as [`Map::last`].
+    /// Returns the pair with the greatest key, or `None` for an empty map.
     ///
     /// ```
     /// # fn main() -> Result<(), proved_congee::OutOfMemory> {
@@ -219,12 +229,12 @@ impl Frozen {
     /// # Ok(())
     /// # }
     /// ```
-    #[doc(alias = "last_key_value")]
+    #[doc(alias("last_entry", "last_key_value", "max"))]
     pub fn last(&self) -> Option<(u64, u64)> {
         self.floor(u64::MAX)
     }
 
-    /// The pair with the greatest key that is at most this one, as [`Map::floor`].
+    /// Returns the pair with the greatest key that is at most `key`, or `None` if no key fits.
     ///
     /// ```
     /// # fn main() -> Result<(), proved_congee::OutOfMemory> {
@@ -240,7 +250,7 @@ impl Frozen {
             .then_some((found[0].key, found[0].value))
     }
 
-    /// The pair with the least key that is at least this one, as [`Map::ceiling`].
+    /// Returns the pair with the least key that is at least `key`, or `None` if no key fits.
     ///
     /// ```
     /// # fn main() -> Result<(), proved_congee::OutOfMemory> {
@@ -250,13 +260,14 @@ impl Frozen {
     /// # Ok(())
     /// # }
     /// ```
+    #[doc(alias = "lower_bound")]
     pub fn ceiling(&self, key: u64) -> Option<(u64, u64)> {
         let mut found = [Pair::default()];
         (self.read_range_inclusive(key, u64::MAX, &mut found) == 1)
             .then_some((found[0].key, found[0].value))
     }
 
-    /// The pair with the greatest key below this one, as [`Map::below`].
+    /// Returns the pair with the greatest key below `key`, or `None` if no key fits.
     ///
     /// ```
     /// # fn main() -> Result<(), proved_congee::OutOfMemory> {
@@ -266,11 +277,12 @@ impl Frozen {
     /// # Ok(())
     /// # }
     /// ```
+    #[doc(alias = "predecessor")]
     pub fn below(&self, key: u64) -> Option<(u64, u64)> {
         self.floor(key.checked_sub(1)?)
     }
 
-    /// The pair with the least key above this one, as [`Map::above`].
+    /// Returns the pair with the least key above `key`, or `None` if no key fits.
     ///
     /// ```
     /// # fn main() -> Result<(), proved_congee::OutOfMemory> {
@@ -280,11 +292,12 @@ impl Frozen {
     /// # Ok(())
     /// # }
     /// ```
+    #[doc(alias("successor", "upper_bound"))]
     pub fn above(&self, key: u64) -> Option<(u64, u64)> {
         self.ceiling(key.checked_add(1)?)
     }
 
-    /// The pairs whose keys are within the bounds, as [`Map::range`].
+    /// Returns the pairs whose keys are within the bounds, keys ascending, from either end.
     ///
     /// ```
     /// # fn main() -> Result<(), proved_congee::OutOfMemory> {
@@ -295,11 +308,12 @@ impl Frozen {
     /// # Ok(())
     /// # }
     /// ```
+    #[doc(alias("cursor", "range_mut", "scan"))]
     pub fn range(&self, bounds: impl RangeBounds<u64>) -> Range<'_> {
         Range::of(Source::Frozen(self), bounds)
     }
 
-    /// All pairs, keys ascending.
+    /// Returns all pairs, keys ascending, from either end.
     ///
     /// ```
     /// # fn main() -> Result<(), proved_congee::OutOfMemory> {
@@ -309,11 +323,12 @@ impl Frozen {
     /// # Ok(())
     /// # }
     /// ```
+    #[doc(alias("for_each", "iter_mut"))]
     pub fn iter(&self) -> Range<'_> {
         self.range(..)
     }
 
-    /// The keys, ascending.
+    /// Returns all keys, ascending, from either end.
     ///
     /// ```
     /// # fn main() -> Result<(), proved_congee::OutOfMemory> {
@@ -327,7 +342,7 @@ impl Frozen {
         Keys { of: self.iter() }
     }
 
-    /// The values, keys ascending.
+    /// Returns all values, by ascending keys, from either end.
     ///
     /// ```
     /// # fn main() -> Result<(), proved_congee::OutOfMemory> {
@@ -337,11 +352,12 @@ impl Frozen {
     /// # Ok(())
     /// # }
     /// ```
+    #[doc(alias = "values_mut")]
     pub fn values(&self) -> Values<'_> {
         Values { of: self.iter() }
     }
 
-    /// Whether there is no pair, in constant time.
+    /// Returns whether the map has no pair, in constant time.
     ///
     /// ```
     /// # fn main() -> Result<(), proved_congee::OutOfMemory> {
@@ -355,7 +371,7 @@ impl Frozen {
         self.len() == 0
     }
 
-    /// How many pairs there are, in constant time.
+    /// Returns the number of pairs, in constant time.
     ///
     /// ```
     /// # fn main() -> Result<(), proved_congee::OutOfMemory> {
@@ -365,11 +381,12 @@ impl Frozen {
     /// # Ok(())
     /// # }
     /// ```
+    #[doc(alias("count", "size", "value_count"))]
     pub fn len(&self) -> usize {
         as_length(unsafe { congee_c_frozen_count(&mut self.handle()) })
     }
 
-    /// What the map is charged, as [`Map::charged`].
+    /// Returns the sum in bytes of the stated sizes of the map's nodes, as [`Map::charged`].
     ///
     /// ```
     /// # fn main() -> Result<(), proved_congee::OutOfMemory> {
@@ -379,11 +396,12 @@ impl Frozen {
     /// # Ok(())
     /// # }
     /// ```
+    #[doc(alias("bytes", "memory_usage", "stats"))]
     pub fn charged(&self) -> u64 {
         self.charged
     }
 
-    /// The map's limit, as [`Map::limit`].
+    /// Returns the limit in bytes that the map was made with, or `u64::MAX` for none.
     ///
     /// ```
     /// # fn main() -> Result<(), proved_congee::OutOfMemory> {
@@ -450,8 +468,10 @@ impl<'a> IntoIterator for &'a Frozen {
     }
 }
 
-/// A frozen map that threads share: each takes a reader of its own, and looks up with no lock from then on. It is `Sync`,
-/// by a mutex of one reader, and with no `unsafe`.
+/// A frozen map that threads share: each thread takes a reader of its own, and looks up without a lock from then on. The
+/// type is `Sync`, by a mutex of one reader, and with no `unsafe`.
+///
+/// What is proved of a reader is at [`Frozen`]. This type is tested.
 ///
 /// ```
 /// use proved_congee::{Map, OutOfMemory, Readers};
@@ -477,7 +497,7 @@ impl<'a> IntoIterator for &'a Frozen {
 pub struct Readers(Mutex<Frozen>);
 
 impl Readers {
-    /// Readers of this one's map.
+    /// Makes readers of the map that this reader reads.
     ///
     /// ```
     /// # fn main() -> Result<(), proved_congee::OutOfMemory> {
@@ -492,7 +512,8 @@ impl Readers {
         Readers(Mutex::new(frozen))
     }
 
-    /// One more reader. Waits while another thread takes one.
+    /// Makes one more reader. Waits while another thread makes one. Returns [`OutOfMemory`] if there is no memory for a
+    /// small block.
     ///
     /// ```
     /// # fn main() -> Result<(), proved_congee::OutOfMemory> {
@@ -512,7 +533,7 @@ impl Readers {
             .try_clone()
     }
 
-    /// The reader that this was made of.
+    /// Returns the reader that this value was made from.
     ///
     /// ```
     /// # fn main() -> Result<(), proved_congee::OutOfMemory> {

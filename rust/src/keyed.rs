@@ -1,7 +1,8 @@
 //! Maps whose keys and values are of other types than `u64`, each written as a number that keeps the order.
 //!
 //! [`OrdMap`] is over a [`Map`](crate::Map), [`OrdSharedMap`] over a [`SharedMap`](crate::SharedMap), and [`OrdLiveMap`]
-//! over a [`LiveMap`](crate::LiveMap). They store the numbers, so a call costs what a call of those costs.
+//! over a [`LiveMap`](crate::LiveMap). A typed map stores the numbers, so a call costs what the call of the numbers costs.
+//! Proved is the map of numbers beneath. The numbers of keys and values are this wrapper's, and tested.
 //!
 //! ```
 //! use proved_congee::keyed::OrdMap;
@@ -53,24 +54,49 @@ use std::ops::{Bound, RangeBounds};
 
 /// A type whose values are numbers of 64 bits, in the same order.
 ///
-/// An implementation promises that `a < b` exactly where `a.into_u64() < b.into_u64()`, and that `T::from_u64(a.into_u64())`
-/// is `a`. A map of a type that breaks this doesn't find its pairs again, and is safe all the same.
+/// An implementation promises that `a < b` exactly if `a.into_u64() < b.into_u64()`, and that `T::from_u64(a.into_u64())`
+/// is `a`. A map of a type that breaks the promise may not find its pairs, and is memory-safe all the same.
 pub trait Word: Copy {
-    /// The value's number.
+    /// Returns the value's number.
+    ///
+    /// ```
+    /// use proved_congee::keyed::Word;
+    ///
+    /// assert!((-1i32).into_u64() < 1i32.into_u64());
+    /// ```
     fn into_u64(self) -> u64;
 
-    /// The value of a number that `into_u64` has returned.
+    /// Returns the value of a number that `into_u64` has returned.
+    ///
+    /// ```
+    /// use proved_congee::keyed::Word;
+    ///
+    /// assert_eq!(i64::from_u64((-7i64).into_u64()), -7);
+    /// ```
     fn from_u64(number: u64) -> Self;
 }
 
-/// A type whose values are numbers of 32 bits, in the same order. A pair of two such types is a [`Word`].
+/// A type whose values are numbers of 32 bits, in the same order. A pair of two types that are `Half` is a [`Word`].
 ///
-/// An implementation promises what one of [`Word`] promises.
+/// An implementation promises that `a < b` exactly if `a.into_u32() < b.into_u32()`, and that `T::from_u32(a.into_u32())`
+/// is `a`.
 pub trait Half: Copy {
-    /// The value's number.
+    /// Returns the value's number.
+    ///
+    /// ```
+    /// use proved_congee::keyed::Half;
+    ///
+    /// assert!('a'.into_u32() < 'b'.into_u32());
+    /// ```
     fn into_u32(self) -> u32;
 
-    /// The value of a number that `into_u32` has returned.
+    /// Returns the value of a number that `into_u32` has returned.
+    ///
+    /// ```
+    /// use proved_congee::keyed::Half;
+    ///
+    /// assert_eq!(i16::from_u32((-7i16).into_u32()), -7);
+    /// ```
     fn from_u32(number: u32) -> Self;
 }
 

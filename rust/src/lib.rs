@@ -14,47 +14,46 @@
 //! # }
 //! ```
 //!
-//! What each function of the library returns and leaves is a theorem about its code, which its contracts state. This wrapper
-//! round them is tested, not proved. The theorem holds for callers that keep what `congee.h` asks of them. The wrapper does,
-//! but for what lies outside a program's text:
+//! What each function of the library returns, and what the map is afterwards, is proved of the library's code. This wrapper
+//! around the functions is tested, not proved. The theorem holds for callers that keep the rules of `congee.h`. The wrapper
+//! keeps them, except for what a program's text doesn't show:
 //!
 //! - `malloc`, `realloc` and `free` are of one allocator.
-//! - There is stack for a call: some eight levels, and a few kilobytes.
+//! - The stack has room for a call, which goes some eight levels deep and takes a few kilobytes.
 //! - No call is made in a signal handler, or in the forked child of a process with threads.
 //! - The declarations of this crate fit the archive, which is of the same version ([`version`]).
-//! - Where a map or a reader goes to another thread, a lock, the start or the join of a thread, or a sequentially
-//!   consistent atomic orders the calls, as the rule of the library's toolchain names them. A hand-over by `Acquire` and
-//!   `Release` alone, which safe Rust allows too, is no case of that rule.
+//! - A map, a guard or a reader goes to another thread by a lock, by the start or the join of a thread, or by a sequentially
+//!   consistent atomic. A hand-over by `Acquire` and `Release` alone, which safe Rust also allows, is not among the cases that
+//!   the library's toolchain names.
 //!
 //! # Memory
 //!
-//! Where a call may find no memory, or reach the map's limit, it returns a `Result`, and its `Err` has changed nothing.
-//! So there is no `FromIterator`, `Extend`, `Clone` or `Default`, whose failures would have no place:
-//! [`Map::try_from_iter`], `TryFrom`, [`Map::try_extend`] and [`Map::try_clone`] return them. There is no `Index` either,
-//! since values are returned and not lent.
+//! A call that may find no memory, or reach the map's limit, returns a `Result`, and an `Err` has changed no pair.
+//! `FromIterator`, `Extend`, `Clone` and `Default` can't return errors. In their place are [`Map::try_from_iter`], `TryFrom`,
+//! [`Map::try_extend`] and [`Map::try_clone`]. `Index` is missing, since values are returned and not lent.
 //!
-//! A limit bounds the stated sizes of the map's nodes ([`Map::charged`]). `malloc` lends up to 1.8 times that. What removals
-//! free is kept for later insertions, until the map is empty.
+//! A limit bounds the stated sizes of the map's nodes ([`Map::charged`]). `malloc` lends up to 1.8 times as much. Memory of
+//! removed nodes is kept for later insertions. Once three quarters of it are free, a removal moves the nodes into less memory.
 //!
 //! # Cost
 //!
-//! A call on one key, an end or a neighbour reads one or two paths of at most eight nodes. `len`, `is_empty` and `charged`
-//! are constant. Iterators read pages of pairs: 4, then 16, and then 64 at a time. Where `BTreeMap` takes a key by
-//! reference, a call takes `7` and `&7`.
+//! A call of one key, an end or a neighbour reads one or two paths of at most eight nodes. `len`, `is_empty` and `charged` of
+//! a [`Map`] take constant time. Iterators read pages of pairs: 4, then 16, and then 64 at a time. Calls that look a key up or
+//! remove one take `7` and `&7`.
 //!
 //! # Keys and values of other types
 //!
-//! [`keyed::OrdMap`] has keys and values of any type that is written as a number which keeps the order: `i32`, `char`, pairs
-//! of small numbers, and types of one's own. So have [`keyed::OrdSharedMap`] and [`keyed::OrdLiveMap`]. A cast won't do:
-//! `-1i64 as u64` comes behind all others.
+//! [`keyed::OrdMap`] has keys and values of any type that can be written as a number which keeps the order: `i32`, `char`, pairs
+//! of small numbers, and types of one's own. For threads there are [`keyed::OrdSharedMap`] and [`keyed::OrdLiveMap`]. A cast
+//! doesn't keep the order: `-1i64 as u64` is the greatest number.
 //!
 //! # Threads
 //!
-//! Threads share a [`SharedMap`], each by a [`Guard`] of its own, under one lock of the library. Or a [`LiveMap`], each by a
-//! [`LiveGuard`]: its look-ups take no lock.
+//! Threads share a [`LiveMap`], each by a [`LiveGuard`] of its own, and look keys up without a lock. Or threads share a
+//! [`SharedMap`], each by a [`Guard`] of its own, under locks of the library.
 //!
-//! A [`Map`] can move to another thread. Threads can't share it by `&`, since the library takes a map as its own during
-//! each call, reads included. So it isn't `Sync`, and a `RwLock` or an `Arc` alone doesn't help. Put it into a `Mutex`, or
+//! A [`Map`] can move to another thread. Threads can't share a map by `&`, since the library takes a map as its own during each
+//! call, reads included. So a `Map` isn't `Sync`, and a `RwLock` or an `Arc` alone doesn't help. Put the map into a `Mutex`, or
 //! freeze it: then [`Readers`] hands out readers, which look up side by side.
 //!
 //! ```
@@ -102,6 +101,7 @@
 mod frozen;
 pub mod keyed;
 mod live;
+mod loops;
 mod map;
 mod pages;
 mod shared;
@@ -123,7 +123,13 @@ use std::fmt;
 #[doc = include_str!("../README.md")]
 struct Readme;
 
-/// There is no memory, or the map's limit is reached. The call has changed nothing.
+/// The error of a call that may take memory: there is no memory, or the map's limit is reached. The call has changed no pair.
+///
+/// ```
+/// use proved_congee::{Map, OutOfMemory};
+///
+/// assert_eq!(Map::with_limit(100).unwrap_err(), OutOfMemory);
+/// ```
 #[derive(Clone, Copy, Debug, PartialEq, Eq)]
 pub struct OutOfMemory;
 
@@ -142,7 +148,7 @@ impl From<OutOfMemory> for std::io::Error {
     }
 }
 
-/// The version of the archive that the program is linked with: its three numbers.
+/// Returns the version of the archive that the program is linked with, as three numbers.
 ///
 /// ```
 /// let (major, minor, patch) = proved_congee::version();

@@ -1,24 +1,28 @@
 //! A map that threads read without a lock.
 
-use crate::map::{as_length, if_expected};
-use crate::pages::LiveRange;
+use crate::loops;
+use crate::map::{as_length, if_expected, ExtendError};
+use crate::pages::{Keys, Range, Values};
 use crate::shared::{if_made, next_map, unless_busy, waiting, waiting_for_memory, Busy, TryError};
 use crate::sys::*;
 use crate::{OutOfMemory, Pair};
 use std::borrow::Borrow;
+use std::convert::Infallible;
 use std::fmt;
 use std::ops::RangeBounds;
 use std::sync::{Mutex, MutexGuard, PoisonError};
 
-/// A map that threads share, each by a [`LiveGuard`] of its own, whose look-ups take no lock. They write nothing that other
-/// threads read. A writer locks single nodes. A node that keeps no pair is taken out, and is used again. For pops, pages
-/// downwards and pages of one moment take a [`SharedMap`](crate::SharedMap). `docs/LIVE.md` lists what replaces each call of
-/// its guards.
+/// A map that threads share, each by a [`LiveGuard`] of its own, and read without a lock. A look-up writes nothing that
+/// other threads read. A writer locks one or two nodes at a time. An empty node leaves the tree, and is used again. For
+/// consistent pages, and for pops and counts of one moment, take a [`SharedMap`](crate::SharedMap). Its guards have the
+/// same calls, and `docs/LIVE.md` lists what differs.
 ///
-/// Proved of the library beneath: calls on keys are *sequentially consistent*. Each guard knows a legal history of the map, which
-/// explains the guard's replies and has its own calls in their order. Guards that [meet](LiveGuard::meet), or hand over a
-/// [note](LiveGuard::note), are in order of time from then on. Ranges, next pairs and counts are in the history by their
-/// beginning alone: each key has its value at a moment after that.
+/// Proved of the library beneath: calls of one key are *sequentially consistent*. Each guard has seen a legal history of
+/// the map, which explains the guard's replies and has its own calls in their order. Guards that [meet](LiveGuard::meet),
+/// or hand over a [note](LiveGuard::note), are in order of time from then on. A call also comes after all calls that had
+/// ended before, by whatever guard. For guards that never met, only tests show that. Ranges, next pairs and counts are in
+/// the history by their beginning alone: each key has its value at a moment after that. This wrapper is tested, as are
+/// pops, pages downwards, iterators and calls with closures, which make several calls of the library.
 ///
 /// ```
 /// use proved_congee::LiveMap;
@@ -41,6 +45,7 @@ use std::sync::{Mutex, MutexGuard, PoisonError};
 /// # Ok(())
 /// # }
 /// ```
+#[doc(alias("concurrent", "lock_free"))]
 #[derive(Debug)]
 pub struct LiveMap {
     // (the library takes a guard as its own, also where it makes another)
@@ -48,7 +53,8 @@ pub struct LiveMap {
 }
 
 impl LiveMap {
-    /// An empty map. Its first node takes 2,104 bytes.
+    /// Makes an empty map without a limit. The first segment takes 8,192 bytes. Returns [`OutOfMemory`] if there is no
+    /// memory.
     ///
     /// ```
     /// # fn main() -> Result<(), proved_congee::OutOfMemory> {
@@ -56,14 +62,18 @@ impl LiveMap {
     /// # Ok(())
     /// # }
     /// ```
+    #[doc(alias = "default")]
     pub fn new() -> Result<LiveMap, OutOfMemory> {
         LiveMap::with_limit(u64::MAX)
     }
 
-    /// An empty map whose nodes may take so many bytes. They lie in segments: the first has 8,192 bytes, each further one twice
-    /// as many up to 524,288. A guard takes one to itself as it inserts, and a later guard what is left of it. A call that
-    /// needs one more than the limit is for is out of memory, and changes no pair. One that needs no new node is made. Nodes
-    /// that removals took out are used again. Refused where there is no memory, or the limit is below the first segment.
+    /// Makes an empty map whose nodes take at most so many bytes together. Returns [`OutOfMemory`] if there is no memory,
+    /// or the limit is below the first segment.
+    ///
+    /// Nodes lie in segments. The first has 8,192 bytes, each further one twice as many up to 524,288. Each guard that
+    /// inserts owns a segment, and a later guard gets what a dropped guard left of one. A call that needs a segment beyond
+    /// the limit is out of memory, and changes no pair. A call that needs no new node goes on as before. Nodes that
+    /// removals took out are used again for nodes of their size.
     ///
     /// ```
     /// use proved_congee::{LiveMap, OutOfMemory};
@@ -81,6 +91,7 @@ impl LiveMap {
     /// assert_eq!(guard.insert(7 << 20, 9), Ok(None));
     /// assert!(LiveMap::with_limit(8_191).is_err());
     /// ```
+    #[doc(alias("capacity", "with_capacity"))]
     pub fn with_limit(bytes: u64) -> Result<LiveMap, OutOfMemory> {
         let mut made = LiveHandle::none();
         match unsafe { congee_c_live_new(bytes, &mut made) } {
@@ -94,7 +105,8 @@ impl LiveMap {
         }
     }
 
-    /// The limit that the map was made with, or `u64::MAX`.
+    /// Returns the limit in bytes that the map was made with, or `u64::MAX` for none. Waits while another thread makes a
+    /// guard.
     ///
     /// ```
     /// # fn main() -> Result<(), proved_congee::OutOfMemory> {
@@ -107,7 +119,8 @@ impl LiveMap {
         self.first().limit()
     }
 
-    /// The bytes of the segments that the map has so far, in constant time. Waits while another thread takes a guard.
+    /// Returns the bytes of all segments that the map has so far, in constant time. Waits while another thread makes a
+    /// guard.
     ///
     /// ```
     /// # fn main() -> Result<(), proved_congee::OutOfMemory> {
@@ -118,12 +131,13 @@ impl LiveMap {
     /// # Ok(())
     /// # }
     /// ```
+    #[doc(alias("bytes", "memory_usage", "stats"))]
     pub fn charged(&self) -> u64 {
         self.first().charged()
     }
 
-    /// The bytes of the segments that the map has so far, and the limit. The first is at most the second. Waits while another
-    /// thread takes a guard.
+    /// Returns the bytes of all segments that the map has so far, and the limit, in constant time. The bytes are at most
+    /// the limit, which is proved. Waits while another thread makes a guard.
     ///
     /// ```
     /// # fn main() -> Result<(), proved_congee::OutOfMemory> {
@@ -141,9 +155,10 @@ impl LiveMap {
         self.first.lock().unwrap_or_else(PoisonError::into_inner)
     }
 
-    /// A guard, by which one thread at a time calls the map. It may go to another thread, and may outlive this value. It
-    /// takes a small block. One that has inserted has room for nodes, of 512 KB at most. Once it is dropped, a later guard
-    /// gets that. Waits while another thread takes one.
+    /// Makes a guard, by which one thread at a time calls the map. A guard may go to another thread, and may outlive this
+    /// value. A guard takes a small block, so keep it for many calls. A guard that has inserted owns free nodes of 512 KB
+    /// at most, which a later guard gets once the guard is dropped. Waits while another thread makes one. Returns
+    /// [`OutOfMemory`] if there is no memory for a guard.
     ///
     /// ```
     /// # fn main() -> Result<(), proved_congee::OutOfMemory> {
@@ -154,6 +169,7 @@ impl LiveMap {
     /// # Ok(())
     /// # }
     /// ```
+    #[doc(alias("epoch", "handle"))]
     pub fn pin(&self) -> Result<LiveGuard, OutOfMemory> {
         self.first().try_clone()
     }
@@ -161,12 +177,29 @@ impl LiveMap {
 
 /// One caller of a [`LiveMap`]: a thread's at a time. With the last guard of a map, and its `LiveMap`, the map is freed.
 ///
-/// Each call has two forms. One waits while nodes of its key are busy: it yields (`std::thread::yield_now`) and tries
-/// again. The other begins with `try_`, and returns [`Busy`] then.
+/// A call without `try_` waits while writers lock or change the nodes that it needs: it yields (`std::thread::yield_now`)
+/// and tries again. The form with `try_` doesn't wait, and returns [`Busy`]. Calls that change many pairs, or call a
+/// closure, have the first form alone.
 ///
-/// A thread that is stopped inside a call that writes keeps the nodes that it has locked busy, and no others. One that is
-/// cancelled there, which takes code beside Rust, leaves them so for ever. So does a fork inside another thread's call, in
-/// the child.
+/// Proved of the library beneath: the guard's replies fit one legal history of the map, as [`LiveMap`] has it. A call of
+/// one key that is busy is not in the history, and an insertion that is out of memory is in the history as a look-up that
+/// found no value. Calls that make several calls of the library are tested, and each of those calls is in the history.
+///
+/// A thread that is stopped inside a call that writes keeps the nodes that it has locked busy, and no others. A thread that
+/// is cancelled there, which takes code beside Rust, leaves them locked for ever. So does a fork inside another thread's
+/// call, in the child.
+///
+/// ```
+/// use proved_congee::LiveMap;
+///
+/// # fn main() -> Result<(), proved_congee::OutOfMemory> {
+/// let map = LiveMap::new()?;
+/// let (writer, reader) = (map.pin()?, map.pin()?);
+/// writer.insert(7, 70)?;
+/// assert_eq!(reader.get(7), Some(70));
+/// # Ok(())
+/// # }
+/// ```
 pub struct LiveGuard {
     guard: *mut OneLiveGuardForEachThread,
     // (which map it is of)
@@ -176,7 +209,7 @@ pub struct LiveGuard {
 // SAFETY: the library proves that a handle may go to another thread (`unsafe impl Send` of its handle).
 unsafe impl Send for LiveGuard {}
 
-/// What a [`LiveGuard`] had seen, which another thread's guard can learn ([`LiveGuard::note`]).
+/// A note of the history that a [`LiveGuard`] had seen, for a guard on another thread to learn ([`LiveGuard::note`]).
 ///
 /// ```
 /// fn goes_to_another_thread<T: Send>() {}
@@ -195,7 +228,8 @@ impl LiveGuard {
         LiveHandle { guard: self.guard }
     }
 
-    /// One more guard of the same map. It has seen what this one had. Takes a small block.
+    /// Makes one more guard of the same map, which begins with the history that this guard has seen. Takes a small block.
+    /// Returns [`OutOfMemory`], with nothing changed, if there is no memory for one.
     ///
     /// ```
     /// # fn main() -> Result<(), proved_congee::OutOfMemory> {
@@ -205,6 +239,7 @@ impl LiveGuard {
     /// # Ok(())
     /// # }
     /// ```
+    #[doc(alias = "clone")]
     pub fn try_clone(&self) -> Result<LiveGuard, OutOfMemory> {
         let mut made = LiveHandle::none();
         match unsafe { congee_c_live_another(&mut self.handle(), &mut made) } {
@@ -216,7 +251,7 @@ impl LiveGuard {
         }
     }
 
-    /// The map's limit, as [`LiveMap::limit`].
+    /// Returns the limit in bytes that the map was made with, or `u64::MAX` for none.
     ///
     /// ```
     /// # fn main() -> Result<(), proved_congee::OutOfMemory> {
@@ -228,7 +263,7 @@ impl LiveGuard {
         unsafe { congee_c_live_limit(&mut self.handle()) }
     }
 
-    /// The bytes of the map's segments, as [`LiveMap::charged`].
+    /// Returns the bytes of all segments that the map has so far, in constant time.
     ///
     /// ```
     /// # fn main() -> Result<(), proved_congee::OutOfMemory> {
@@ -236,11 +271,13 @@ impl LiveGuard {
     /// # Ok(())
     /// # }
     /// ```
+    #[doc(alias("bytes", "memory_usage", "stats"))]
     pub fn charged(&self) -> u64 {
         unsafe { congee_c_live_charged(&mut self.handle()) }
     }
 
-    /// The bytes of the map's segments and its limit, as [`LiveMap::usage`].
+    /// Returns the bytes of all segments that the map has so far, and the limit, in constant time. The bytes are at most
+    /// the limit, which is proved.
     ///
     /// ```
     /// # fn main() -> Result<(), proved_congee::OutOfMemory> {
@@ -256,12 +293,13 @@ impl LiveGuard {
         (charged, limit)
     }
 
-    /// Two guards of one map meet. Both have then seen what either had, so a call that either makes later comes after all that
-    /// either had made or read. A guard may meet itself, which does nothing.
+    /// Orders two guards of one map in time: calls that either guard had made, or had learned of, come before all later
+    /// calls of both. Both guards have then seen one history. A guard may meet itself, without effect. Never fails, and
+    /// takes no lock and no memory.
     ///
     /// # Panics
     ///
-    /// If they are of two maps.
+    /// If the guards are of two maps.
     ///
     /// ```
     /// # fn main() -> Result<(), proved_congee::OutOfMemory> {
@@ -281,9 +319,9 @@ impl LiveGuard {
         }
     }
 
-    /// A note of what the guard has seen so far, for guards of other threads. A call of this guard that returned before
-    /// comes before each call of one that has learned the note since. Takes a small block, and no room for nodes. The map's memory
-    /// is there as long as its notes.
+    /// Makes a note of the history that the guard has seen, for a guard on another thread. All calls that this guard has
+    /// made come before the calls that a guard makes once it has [learned](LiveGuard::learn) the note. Takes a small block.
+    /// The map lasts as long as its last note. Returns [`OutOfMemory`] if there is no memory for a note.
     ///
     /// ```
     /// use proved_congee::LiveMap;
@@ -317,7 +355,8 @@ impl LiveGuard {
         }
     }
 
-    /// The guard has then seen what was noted, and the note what the guard has seen.
+    /// Orders the guard after a note: all calls that the note has seen come before the guard's later calls. The guard and
+    /// the note have then seen one history.
     ///
     /// # Panics
     ///
@@ -337,7 +376,8 @@ impl LiveGuard {
         self.meet(&note.guard);
     }
 
-    /// The value at the key.
+    /// Returns the value at the key, or `None` if the key is absent. Takes no lock and no memory. While writers lock or
+    /// change the key's nodes, the call yields and tries again.
     ///
     /// ```
     /// # fn main() -> Result<(), proved_congee::OutOfMemory> {
@@ -347,12 +387,14 @@ impl LiveGuard {
     /// # Ok(())
     /// # }
     /// ```
+    #[doc(alias("find", "index", "view"))]
     pub fn get(&self, key: impl Borrow<u64>) -> Option<u64> {
         let key = *key.borrow();
         waiting(|| self.try_get(key))
     }
 
-    /// The same, which doesn't wait.
+    /// Returns the value at the key, or `None` if the key is absent. Takes no lock and no memory. Doesn't wait: returns
+    /// [`Busy`], with nothing changed, if writers locked or changed the key's nodes at each of a bounded number of tries.
     ///
     /// ```
     /// # fn main() -> Result<(), Box<dyn std::error::Error>> {
@@ -368,7 +410,8 @@ impl LiveGuard {
         unless_busy(code, |code| (code == 1).then_some(value))
     }
 
-    /// Whether the key is there.
+    /// Returns whether the map has the key. Takes no lock and no memory. While writers lock or change the key's nodes, the
+    /// call yields and tries again.
     ///
     /// ```
     /// # fn main() -> Result<(), proved_congee::OutOfMemory> {
@@ -378,11 +421,14 @@ impl LiveGuard {
     /// # Ok(())
     /// # }
     /// ```
+    #[doc(alias = "contains")]
     pub fn contains_key(&self, key: impl Borrow<u64>) -> bool {
         self.get(key).is_some()
     }
 
-    /// Sets the key's value, and returns the previous one. Refused where there is no memory.
+    /// Sets the key's value, and returns the previous value, or `None` for a new key. While writers lock or change the
+    /// key's nodes, the call yields and tries again. Returns [`OutOfMemory`], with no pair changed, only for an absent key,
+    /// if there is no memory or the limit is reached.
     ///
     /// ```
     /// # fn main() -> Result<(), proved_congee::OutOfMemory> {
@@ -392,11 +438,15 @@ impl LiveGuard {
     /// # Ok(())
     /// # }
     /// ```
+    #[doc(alias("put", "upsert"))]
     pub fn insert(&self, key: u64, value: u64) -> Result<Option<u64>, OutOfMemory> {
         waiting_for_memory(|| self.try_insert(key, value))
     }
 
-    /// The same, which doesn't wait.
+    /// Sets the key's value, and returns the previous value, or `None` for a new key. Doesn't wait: returns
+    /// [`TryError::Busy`], with nothing changed, if writers locked or changed the key's nodes at each of a bounded number
+    /// of tries. Returns [`TryError::OutOfMemory`], with no pair changed, only for an absent key, if there is no memory or
+    /// the limit is reached.
     ///
     /// ```
     /// # fn main() -> Result<(), Box<dyn std::error::Error>> {
@@ -411,9 +461,27 @@ impl LiveGuard {
         if_made(code, before)
     }
 
-    /// Gives the key the value if it is absent, and returns the value that it has then. Who gave it that is told by
-    /// [`insert_absent`](LiveGuard::insert_absent). No lock is taken for a present key. Refused as
-    /// [`insert`](LiveGuard::insert).
+    /// Inserts the pairs one by one, and waits where [`insert`](LiveGuard::insert) waits. Other calls come in between. The
+    /// first refused pair ends the call, and the pairs before are in the map. The error has their number and the refused
+    /// pair.
+    ///
+    /// ```
+    /// # fn main() -> Result<(), Box<dyn std::error::Error>> {
+    /// let guard = proved_congee::LiveMap::new()?.pin()?;
+    /// guard.extend([(5, 50), (7, 70), (9, 90)])?;
+    /// assert!(guard.iter().eq([(5, 50), (7, 70), (9, 90)]));
+    /// # Ok(())
+    /// # }
+    /// ```
+    #[doc(alias = "insert_many")]
+    pub fn extend(&self, pairs: impl IntoIterator<Item = (u64, u64)>) -> Result<(), ExtendError> {
+        loops::extend(self, pairs)
+    }
+
+    /// Inserts the value if the key is absent, and returns the key's value after the call.
+    /// [`insert_absent`](LiveGuard::insert_absent) also reports who inserted the value. A present key takes no lock. While
+    /// writers lock or change the key's nodes, the call yields and tries again. Returns [`OutOfMemory`], with no pair
+    /// changed, only for an absent key, if there is no memory or the limit is reached.
     ///
     /// ```
     /// # fn main() -> Result<(), proved_congee::OutOfMemory> {
@@ -423,11 +491,16 @@ impl LiveGuard {
     /// # Ok(())
     /// # }
     /// ```
+    #[doc(alias("entry", "or_default", "or_insert"))]
     pub fn get_or_insert(&self, key: u64, value: u64) -> Result<u64, OutOfMemory> {
         waiting_for_memory(|| self.try_get_or_insert(key, value))
     }
 
-    /// The same, which doesn't wait.
+    /// Inserts the value if the key is absent, and returns the key's value after the call.
+    /// [`insert_absent`](LiveGuard::insert_absent) also reports who inserted the value. A present key takes no lock.
+    /// Doesn't wait: returns [`TryError::Busy`], with nothing changed, if writers locked or changed the key's nodes at each
+    /// of a bounded number of tries. Returns [`TryError::OutOfMemory`], with no pair changed, only for an absent key, if
+    /// there is no memory or the limit is reached.
     ///
     /// ```
     /// # fn main() -> Result<(), Box<dyn std::error::Error>> {
@@ -440,9 +513,10 @@ impl LiveGuard {
         Ok(self.try_insert_absent(key, value)?.unwrap_or(value))
     }
 
-    /// Gives the key the value if it is absent. Returns `None` to the guard that inserted it, and the current value to all
-    /// others. So of threads that claim one key at once, one gets `None`. No lock is taken for a present key. Refused as
-    /// [`insert`](LiveGuard::insert).
+    /// Inserts the value if the key is absent, and returns `None`. Otherwise changes nothing, and returns the present
+    /// value. Of threads that claim one key at once, one gets `None`. A present key takes no lock. While writers lock or
+    /// change the key's nodes, the call yields and tries again. Returns [`OutOfMemory`], with no pair changed, only for an
+    /// absent key, if there is no memory or the limit is reached.
     ///
     /// ```
     /// use proved_congee::LiveMap;
@@ -458,11 +532,16 @@ impl LiveGuard {
     /// # Ok(())
     /// # }
     /// ```
+    #[doc(alias("insert_if_absent", "try_insert"))]
     pub fn insert_absent(&self, key: u64, value: u64) -> Result<Option<u64>, OutOfMemory> {
         waiting_for_memory(|| self.try_insert_absent(key, value))
     }
 
-    /// The same, which doesn't wait.
+    /// Inserts the value if the key is absent, and returns `None`. Otherwise changes nothing, and returns the present
+    /// value. Of threads that claim one key at once, one gets `None`. A present key takes no lock. Doesn't wait: returns
+    /// [`TryError::Busy`], with nothing changed, if writers locked or changed the key's nodes at each of a bounded number
+    /// of tries. Returns [`TryError::OutOfMemory`], with no pair changed, only for an absent key, if there is no memory or
+    /// the limit is reached.
     ///
     /// ```
     /// # fn main() -> Result<(), Box<dyn std::error::Error>> {
@@ -479,7 +558,34 @@ impl LiveGuard {
         if_made(code, found)
     }
 
-    /// Adds the number to the key's value, as [`Map::add`](crate::Map::add), and returns the value before.
+    /// Returns the key's value. For an absent key the closure is called once, and its value is inserted and returned,
+    /// unless another call inserts the key meanwhile: then that call's value is returned. The closure is called while
+    /// nothing is locked, so it may take long, or call the map. While writers lock or change the key's nodes, the call
+    /// yields and tries again. Returns [`OutOfMemory`], with no pair changed, only for an absent key, if there is no memory
+    /// or the limit is reached.
+    ///
+    /// ```
+    /// # fn main() -> Result<(), Box<dyn std::error::Error>> {
+    /// let guard = proved_congee::LiveMap::new()?.pin()?;
+    /// guard.extend([(5, 50), (7, 70), (9, 90)])?;
+    /// assert_eq!(guard.get_or_insert_with(7, || 1)?, 70);
+    /// assert_eq!(guard.get_or_insert_with(8, || 80)?, 80);
+    /// # Ok(())
+    /// # }
+    /// ```
+    #[doc(alias("entry", "or_insert_with"))]
+    pub fn get_or_insert_with(
+        &self,
+        key: u64,
+        f: impl FnOnce() -> u64,
+    ) -> Result<u64, OutOfMemory> {
+        loops::get_or_insert_with(self, key, f)
+    }
+
+    /// Adds the number to the key's value, and returns the value before, or `None` for a new key, which gets the number as
+    /// value. The sum wraps, as `u64::wrapping_add`. While writers lock or change the key's nodes, the call yields and
+    /// tries again. Returns [`OutOfMemory`], with no pair changed, only for an absent key, if there is no memory or the
+    /// limit is reached.
     ///
     /// ```
     /// # fn main() -> Result<(), proved_congee::OutOfMemory> {
@@ -490,11 +596,15 @@ impl LiveGuard {
     /// # Ok(())
     /// # }
     /// ```
+    #[doc(alias("fetch_add", "increment"))]
     pub fn add(&self, key: u64, number: u64) -> Result<Option<u64>, OutOfMemory> {
         waiting_for_memory(|| self.try_add(key, number))
     }
 
-    /// The same, which doesn't wait.
+    /// Adds the number to the key's value, and returns the value before, or `None` for a new key, which gets the number as
+    /// value. The sum wraps, as `u64::wrapping_add`. Doesn't wait: returns [`TryError::Busy`], with nothing changed, if
+    /// writers locked or changed the key's nodes at each of a bounded number of tries. Returns [`TryError::OutOfMemory`],
+    /// with no pair changed, only for an absent key, if there is no memory or the limit is reached.
     ///
     /// ```
     /// # fn main() -> Result<(), Box<dyn std::error::Error>> {
@@ -510,7 +620,40 @@ impl LiveGuard {
         if_made(code, before)
     }
 
-    /// Removes the key, and returns the value that it had.
+    /// Calls the closure with the key's value or `None`. Stores the value that the closure returns, or removes the key for
+    /// `None`. Returns the previous value. If another call changes the key meanwhile, the closure is called again with the
+    /// new value, so no change is lost. The closure is called while nothing is locked, so it may take long, or call the
+    /// map. While writers lock or change the key's nodes, the call yields and tries again. Returns [`OutOfMemory`], with no
+    /// pair changed, only for an absent key, if there is no memory or the limit is reached.
+    ///
+    /// ```
+    /// # fn main() -> Result<(), Box<dyn std::error::Error>> {
+    /// let guard = proved_congee::LiveMap::new()?.pin()?;
+    /// guard.extend([(5, 50), (7, 70), (9, 90)])?;
+    /// let halved = guard.compute(7, |value| Some(value? / 2))?;
+    /// assert_eq!((halved, guard.get(7)), (Some(70), Some(35)));
+    /// assert_eq!((guard.compute(7, |_| None)?, guard.get(7)), (Some(35), None));
+    /// # Ok(())
+    /// # }
+    /// ```
+    #[doc(alias(
+        "alter",
+        "and_modify",
+        "compute_if_present",
+        "compute_or_insert",
+        "get_mut",
+        "update"
+    ))]
+    pub fn compute(
+        &self,
+        key: u64,
+        f: impl FnMut(Option<u64>) -> Option<u64>,
+    ) -> Result<Option<u64>, OutOfMemory> {
+        loops::compute(self, key, f)
+    }
+
+    /// Removes the key, and returns the removed value, or `None` if the key was absent. A removal is never out of memory.
+    /// While writers lock or change the key's nodes, the call yields and tries again.
     ///
     /// ```
     /// # fn main() -> Result<(), proved_congee::OutOfMemory> {
@@ -520,12 +663,15 @@ impl LiveGuard {
     /// # Ok(())
     /// # }
     /// ```
+    #[doc(alias("delete", "erase"))]
     pub fn remove(&self, key: impl Borrow<u64>) -> Option<u64> {
         let key = *key.borrow();
         waiting(|| self.try_remove(key))
     }
 
-    /// The same, which doesn't wait.
+    /// Removes the key, and returns the removed value, or `None` if the key was absent. A removal is never out of memory.
+    /// Doesn't wait: returns [`Busy`], with nothing changed, if writers locked or changed the key's nodes at each of a
+    /// bounded number of tries.
     ///
     /// ```
     /// # fn main() -> Result<(), Box<dyn std::error::Error>> {
@@ -541,8 +687,9 @@ impl LiveGuard {
         unless_busy(code, |code| (code == 1).then_some(before))
     }
 
-    /// Replaces the key's value by `desired` if it is `expected`. Otherwise changes nothing, and returns as an error the
-    /// current value, or `None` if the key is absent.
+    /// Replaces the key's value by `desired` if the value is `expected`. Otherwise changes nothing, and returns as an error
+    /// the present value, or `None` if the key is absent. Needs no memory. While writers lock or change the key's nodes,
+    /// the call yields and tries again.
     ///
     /// ```
     /// # fn main() -> Result<(), proved_congee::OutOfMemory> {
@@ -554,6 +701,7 @@ impl LiveGuard {
     /// # Ok(())
     /// # }
     /// ```
+    #[doc(alias("cas", "compare_and_swap"))]
     pub fn compare_exchange(
         &self,
         key: u64,
@@ -563,7 +711,9 @@ impl LiveGuard {
         waiting(|| self.try_compare_exchange(key, expected, desired))
     }
 
-    /// The same, which doesn't wait.
+    /// Replaces the key's value by `desired` if the value is `expected`. Otherwise changes nothing, and returns as an error
+    /// the present value, or `None` if the key is absent. Needs no memory. Doesn't wait: returns [`Busy`], with nothing
+    /// changed, if writers locked or changed the key's nodes at each of a bounded number of tries.
     ///
     /// ```
     /// # fn main() -> Result<(), Box<dyn std::error::Error>> {
@@ -586,8 +736,9 @@ impl LiveGuard {
         unless_busy(code, |code| if_expected(code, found))
     }
 
-    /// Removes the key if its value is `expected`. Otherwise changes nothing, and returns as an error the current value, or
-    /// `None` if the key is absent.
+    /// Removes the key if the key's value is `expected`. Otherwise changes nothing, and returns as an error the present
+    /// value, or `None` if the key is absent. A removal is never out of memory. While writers lock or change the key's
+    /// nodes, the call yields and tries again.
     ///
     /// ```
     /// # fn main() -> Result<(), proved_congee::OutOfMemory> {
@@ -599,11 +750,14 @@ impl LiveGuard {
     /// # Ok(())
     /// # }
     /// ```
+    #[doc(alias = "remove_if")]
     pub fn compare_remove(&self, key: u64, expected: u64) -> Result<(), Option<u64>> {
         waiting(|| self.try_compare_remove(key, expected))
     }
 
-    /// The same, which doesn't wait.
+    /// Removes the key if the key's value is `expected`. Otherwise changes nothing, and returns as an error the present
+    /// value, or `None` if the key is absent. A removal is never out of memory. Doesn't wait: returns [`Busy`], with
+    /// nothing changed, if writers locked or changed the key's nodes at each of a bounded number of tries.
     ///
     /// ```
     /// # fn main() -> Result<(), Box<dyn std::error::Error>> {
@@ -624,7 +778,9 @@ impl LiveGuard {
         unless_busy(code, |code| if_expected(code, found))
     }
 
-    /// Whether there is no pair, by a look for the first one.
+    /// Returns whether the map has no pair, by a search for the first pair. With `true` no key was present throughout the
+    /// call. With `false` a pair was present at a moment of the call. While writers lock or change nodes on the way, the
+    /// call yields and tries again.
     ///
     /// ```
     /// # fn main() -> Result<(), proved_congee::OutOfMemory> {
@@ -639,7 +795,9 @@ impl LiveGuard {
         waiting(|| self.try_is_empty())
     }
 
-    /// The same, which doesn't wait.
+    /// Returns whether the map has no pair, by a search for the first pair. With `true` no key was present throughout the
+    /// call. With `false` a pair was present at a moment of the call. Doesn't wait: returns [`Busy`], with nothing changed,
+    /// if writers locked or changed nodes on the way at each of a bounded number of tries.
     ///
     /// ```
     /// # fn main() -> Result<(), Box<dyn std::error::Error>> {
@@ -653,8 +811,9 @@ impl LiveGuard {
         Ok(self.try_first()?.is_none())
     }
 
-    /// How many pairs there are. It reads all nodes that have values, so takes time by their number. It is exact where no other
-    /// thread writes. Else each key is counted, or not, as it was at a moment of the call.
+    /// Counts the pairs. The number is exact if no thread writes meanwhile. Otherwise each key counts, or not, as of a
+    /// moment of the call. The call reads all nodes that have values, so the time grows with the number of pairs. While
+    /// writers lock or change nodes on the way, the call yields and tries again.
     ///
     /// ```
     /// # fn main() -> Result<(), proved_congee::OutOfMemory> {
@@ -666,11 +825,15 @@ impl LiveGuard {
     /// # Ok(())
     /// # }
     /// ```
+    #[doc(alias("count", "size", "value_count"))]
     pub fn len(&self) -> usize {
         waiting(|| self.try_len())
     }
 
-    /// The same, which doesn't wait.
+    /// Counts the pairs. The number is exact if no thread writes meanwhile. Otherwise each key counts, or not, as of a
+    /// moment of the call. The call reads all nodes that have values, so the time grows with the number of pairs. Doesn't
+    /// wait: returns [`Busy`], with nothing changed, if writers locked or changed nodes on the way at each of a bounded
+    /// number of tries.
     ///
     /// ```
     /// # fn main() -> Result<(), Box<dyn std::error::Error>> {
@@ -688,7 +851,9 @@ impl LiveGuard {
         unless_busy(code, |_| as_length(count))
     }
 
-    /// The pair with the least key. It was there at a moment of the call, and no key below it is there throughout.
+    /// Returns the pair with the least key, or `None` for an empty map. The pair was present at a moment of the call, and
+    /// no lesser key was present throughout the call. While writers lock or change nodes on the way, the call yields and
+    /// tries again.
     ///
     /// ```
     /// # fn main() -> Result<(), proved_congee::OutOfMemory> {
@@ -700,11 +865,14 @@ impl LiveGuard {
     /// # Ok(())
     /// # }
     /// ```
+    #[doc(alias("first_entry", "first_key_value", "min", "peek"))]
     pub fn first(&self) -> Option<(u64, u64)> {
         waiting(|| self.try_first())
     }
 
-    /// The same, which doesn't wait.
+    /// Returns the pair with the least key, or `None` for an empty map. The pair was present at a moment of the call, and
+    /// no lesser key was present throughout the call. Doesn't wait: returns [`Busy`], with nothing changed, if writers
+    /// locked or changed nodes on the way at each of a bounded number of tries.
     ///
     /// ```
     /// # fn main() -> Result<(), Box<dyn std::error::Error>> {
@@ -722,7 +890,9 @@ impl LiveGuard {
         unless_busy(code, |code| (code == 1).then(|| pair.into()))
     }
 
-    /// The pair with the least key that is at least this one, in the same way.
+    /// Returns the pair with the least key that is at least `key`, or `None` if no key fits. The pair was present at a
+    /// moment of the call, and no key between the two was present throughout the call. While writers lock or change nodes
+    /// on the way, the call yields and tries again.
     ///
     /// ```
     /// # fn main() -> Result<(), proved_congee::OutOfMemory> {
@@ -734,11 +904,14 @@ impl LiveGuard {
     /// # Ok(())
     /// # }
     /// ```
+    #[doc(alias = "lower_bound")]
     pub fn ceiling(&self, key: u64) -> Option<(u64, u64)> {
         waiting(|| self.try_ceiling(key))
     }
 
-    /// The same, which doesn't wait.
+    /// Returns the pair with the least key that is at least `key`, or `None` if no key fits. The pair was present at a
+    /// moment of the call, and no key between the two was present throughout the call. Doesn't wait: returns [`Busy`], with
+    /// nothing changed, if writers locked or changed nodes on the way at each of a bounded number of tries.
     ///
     /// ```
     /// # fn main() -> Result<(), Box<dyn std::error::Error>> {
@@ -756,7 +929,9 @@ impl LiveGuard {
         unless_busy(code, |code| (code == 1).then(|| pair.into()))
     }
 
-    /// The pair with the least key above this one, in the same way.
+    /// Returns the pair with the least key above `key`, or `None` if no key fits. The pair was present at a moment of the
+    /// call, and no key between the two was present throughout the call. While writers lock or change nodes on the way, the
+    /// call yields and tries again.
     ///
     /// ```
     /// # fn main() -> Result<(), proved_congee::OutOfMemory> {
@@ -768,11 +943,14 @@ impl LiveGuard {
     /// # Ok(())
     /// # }
     /// ```
+    #[doc(alias("successor", "upper_bound"))]
     pub fn above(&self, key: u64) -> Option<(u64, u64)> {
         waiting(|| self.try_above(key))
     }
 
-    /// The same, which doesn't wait.
+    /// Returns the pair with the least key above `key`, or `None` if no key fits. The pair was present at a moment of the
+    /// call, and no key between the two was present throughout the call. Doesn't wait: returns [`Busy`], with nothing
+    /// changed, if writers locked or changed nodes on the way at each of a bounded number of tries.
     ///
     /// ```
     /// # fn main() -> Result<(), Box<dyn std::error::Error>> {
@@ -790,7 +968,9 @@ impl LiveGuard {
         unless_busy(code, |code| (code == 1).then(|| pair.into()))
     }
 
-    /// The pair with the greatest key. It was there at a moment of the call, and no key above it is there throughout.
+    /// Returns the pair with the greatest key, or `None` for an empty map. The pair was present at a moment of the call,
+    /// and no greater key was present throughout the call. While writers lock or change nodes on the way, the call yields
+    /// and tries again.
     ///
     /// ```
     /// # fn main() -> Result<(), proved_congee::OutOfMemory> {
@@ -802,11 +982,14 @@ impl LiveGuard {
     /// # Ok(())
     /// # }
     /// ```
+    #[doc(alias("last_entry", "last_key_value", "max"))]
     pub fn last(&self) -> Option<(u64, u64)> {
         waiting(|| self.try_last())
     }
 
-    /// The same, which doesn't wait.
+    /// Returns the pair with the greatest key, or `None` for an empty map. The pair was present at a moment of the call,
+    /// and no greater key was present throughout the call. Doesn't wait: returns [`Busy`], with nothing changed, if writers
+    /// locked or changed nodes on the way at each of a bounded number of tries.
     ///
     /// ```
     /// # fn main() -> Result<(), Box<dyn std::error::Error>> {
@@ -824,7 +1007,9 @@ impl LiveGuard {
         unless_busy(code, |code| (code == 1).then(|| pair.into()))
     }
 
-    /// The pair with the greatest key that is at most this one, in the same way.
+    /// Returns the pair with the greatest key that is at most `key`, or `None` if no key fits. The pair was present at a
+    /// moment of the call, and no key between the two was present throughout the call. While writers lock or change nodes
+    /// on the way, the call yields and tries again.
     ///
     /// ```
     /// # fn main() -> Result<(), proved_congee::OutOfMemory> {
@@ -840,7 +1025,9 @@ impl LiveGuard {
         waiting(|| self.try_floor(key))
     }
 
-    /// The same, which doesn't wait.
+    /// Returns the pair with the greatest key that is at most `key`, or `None` if no key fits. The pair was present at a
+    /// moment of the call, and no key between the two was present throughout the call. Doesn't wait: returns [`Busy`], with
+    /// nothing changed, if writers locked or changed nodes on the way at each of a bounded number of tries.
     ///
     /// ```
     /// # fn main() -> Result<(), Box<dyn std::error::Error>> {
@@ -858,7 +1045,9 @@ impl LiveGuard {
         unless_busy(code, |code| (code == 1).then(|| pair.into()))
     }
 
-    /// The pair with the greatest key below this one, in the same way.
+    /// Returns the pair with the greatest key below `key`, or `None` if no key fits. The pair was present at a moment of
+    /// the call, and no key between the two was present throughout the call. While writers lock or change nodes on the way,
+    /// the call yields and tries again.
     ///
     /// ```
     /// # fn main() -> Result<(), proved_congee::OutOfMemory> {
@@ -870,11 +1059,14 @@ impl LiveGuard {
     /// # Ok(())
     /// # }
     /// ```
+    #[doc(alias = "predecessor")]
     pub fn below(&self, key: u64) -> Option<(u64, u64)> {
         waiting(|| self.try_below(key))
     }
 
-    /// The same, which doesn't wait.
+    /// Returns the pair with the greatest key below `key`, or `None` if no key fits. The pair was present at a moment of
+    /// the call, and no key between the two was present throughout the call. Doesn't wait: returns [`Busy`], with nothing
+    /// changed, if writers locked or changed nodes on the way at each of a bounded number of tries.
     ///
     /// ```
     /// # fn main() -> Result<(), Box<dyn std::error::Error>> {
@@ -892,9 +1084,105 @@ impl LiveGuard {
         unless_busy(code, |code| (code == 1).then(|| pair.into()))
     }
 
-    /// Writes the first pairs with `start <= key < end` to the buffer, keys ascending, as many as there are or as fit, and
-    /// returns how many. They aren't those of one moment: each was there at a moment of the call, and a key that is there
-    /// throughout is among them. What follows in the buffer is unspecified.
+    /// Removes the pair with the least key, and returns the pair, or `None` if the call found no pair. Each pair goes to
+    /// one caller. The pair was found by [`first`](LiveGuard::first): no lesser key was present throughout the call. A
+    /// lesser key that another call inserts meanwhile stays. With `None` no key was present throughout the call. A pop is
+    /// never out of memory. While writers lock or change nodes on the way, the call yields and tries again. If another call
+    /// removes or changes the found pair first, the call searches again.
+    ///
+    /// ```
+    /// # fn main() -> Result<(), Box<dyn std::error::Error>> {
+    /// let guard = proved_congee::LiveMap::new()?.pin()?;
+    /// guard.extend([(5, 50), (7, 70), (9, 90)])?;
+    /// assert_eq!((guard.pop_first(), guard.first()), (Some((5, 50)), Some((7, 70))));
+    /// # Ok(())
+    /// # }
+    /// ```
+    #[doc(alias("pop", "pop_min"))]
+    pub fn pop_first(&self) -> Option<(u64, u64)> {
+        self.pop(LiveGuard::first)
+    }
+
+    /// Removes the pair with the least key, and returns the pair, or `None` if the call found no pair. Each pair goes to
+    /// one caller. The pair was found by [`first`](LiveGuard::first): no lesser key was present throughout the call. A
+    /// lesser key that another call inserts meanwhile stays. With `None` no key was present throughout the call. A pop is
+    /// never out of memory. Doesn't wait: returns [`Busy`], with nothing changed, if writers locked or changed nodes on the
+    /// way at each of a bounded number of tries, or another call removed or changed the found pair first.
+    ///
+    /// ```
+    /// # fn main() -> Result<(), Box<dyn std::error::Error>> {
+    /// let guard = proved_congee::LiveMap::new()?.pin()?;
+    /// guard.extend([(5, 50), (7, 70), (9, 90)])?;
+    /// assert_eq!(guard.try_pop_first()?, Some((5, 50)));
+    /// # Ok(())
+    /// # }
+    /// ```
+    pub fn try_pop_first(&self) -> Result<Option<(u64, u64)>, Busy> {
+        self.try_take(self.try_first()?)
+    }
+
+    /// Removes the pair with the greatest key, and returns the pair, or `None` if the call found no pair. Each pair goes to
+    /// one caller. The pair was found by [`last`](LiveGuard::last): no greater key was present throughout the call. A
+    /// greater key that another call inserts meanwhile stays. With `None` no key was present throughout the call. A pop is
+    /// never out of memory. While writers lock or change nodes on the way, the call yields and tries again. If another call
+    /// removes or changes the found pair first, the call searches again.
+    ///
+    /// ```
+    /// # fn main() -> Result<(), Box<dyn std::error::Error>> {
+    /// let guard = proved_congee::LiveMap::new()?.pin()?;
+    /// guard.extend([(5, 50), (7, 70), (9, 90)])?;
+    /// assert_eq!((guard.pop_last(), guard.last()), (Some((9, 90)), Some((7, 70))));
+    /// # Ok(())
+    /// # }
+    /// ```
+    #[doc(alias = "pop_max")]
+    pub fn pop_last(&self) -> Option<(u64, u64)> {
+        self.pop(LiveGuard::last)
+    }
+
+    /// Removes the pair with the greatest key, and returns the pair, or `None` if the call found no pair. Each pair goes to
+    /// one caller. The pair was found by [`last`](LiveGuard::last): no greater key was present throughout the call. A
+    /// greater key that another call inserts meanwhile stays. With `None` no key was present throughout the call. A pop is
+    /// never out of memory. Doesn't wait: returns [`Busy`], with nothing changed, if writers locked or changed nodes on the
+    /// way at each of a bounded number of tries, or another call removed or changed the found pair first.
+    ///
+    /// ```
+    /// # fn main() -> Result<(), Box<dyn std::error::Error>> {
+    /// let guard = proved_congee::LiveMap::new()?.pin()?;
+    /// guard.extend([(5, 50), (7, 70), (9, 90)])?;
+    /// assert_eq!(guard.try_pop_last()?, Some((9, 90)));
+    /// # Ok(())
+    /// # }
+    /// ```
+    pub fn try_pop_last(&self) -> Result<Option<(u64, u64)>, Busy> {
+        self.try_take(self.try_last()?)
+    }
+
+    // Removes the pair that the search finds, if no other call changes or removes it first. Otherwise searches again.
+    fn pop(&self, found: impl Fn(&LiveGuard) -> Option<(u64, u64)>) -> Option<(u64, u64)> {
+        loop {
+            let (key, value) = found(self)?;
+            if self.compare_remove(key, value).is_ok() {
+                return Some((key, value));
+            }
+        }
+    }
+
+    // Removes the pair that was found, unless another call changed or removed it first.
+    fn try_take(&self, found: Option<(u64, u64)>) -> Result<Option<(u64, u64)>, Busy> {
+        match found {
+            Some((key, value)) => match self.try_compare_remove(key, value)? {
+                Ok(()) => Ok(found),
+                Err(_) => Err(Busy),
+            },
+            None => Ok(None),
+        }
+    }
+
+    /// Writes the first pairs with `start <= key < end` to the buffer, keys ascending, and returns how many pairs fit.
+    /// `u64::MAX` is in no such range. The page is no snapshot: each key is read at a moment of the call, and no moment is
+    /// before the moment of a lower key. A key that is present throughout the call is in the page. The rest of the buffer
+    /// is unspecified. While writers lock or change nodes on the way, the call yields and tries again.
     ///
     /// ```
     /// # fn main() -> Result<(), proved_congee::OutOfMemory> {
@@ -908,11 +1196,16 @@ impl LiveGuard {
     /// # Ok(())
     /// # }
     /// ```
+    #[doc(alias("page", "scan"))]
     pub fn read_range(&self, start: u64, end: u64, buffer: &mut [Pair]) -> usize {
         waiting(|| self.try_read_range(start, end, buffer))
     }
 
-    /// The same, which doesn't wait. After [`Busy`] all of the buffer is unspecified.
+    /// Writes the first pairs with `start <= key < end` to the buffer, keys ascending, and returns how many pairs fit.
+    /// `u64::MAX` is in no such range. The page is no snapshot: each key is read at a moment of the call, and no moment is
+    /// before the moment of a lower key. A key that is present throughout the call is in the page. The rest of the buffer
+    /// is unspecified. Doesn't wait: returns [`Busy`], with the map unchanged and all of the buffer unspecified, if writers
+    /// locked or changed nodes of the range at each of a bounded number of tries.
     ///
     /// ```
     /// # fn main() -> Result<(), Box<dyn std::error::Error>> {
@@ -933,7 +1226,10 @@ impl LiveGuard {
         unless_busy(code, |_| as_length(written))
     }
 
-    /// Writes the first pairs with `start <= key <= last` to the buffer, as [`read_range`](LiveGuard::read_range).
+    /// Writes the first pairs with `start <= key <= last` to the buffer, keys ascending, and returns how many pairs fit.
+    /// The page is no snapshot: each key is read at a moment of the call, and no moment is before the moment of a lower
+    /// key. A key that is present throughout the call is in the page. The rest of the buffer is unspecified. While writers
+    /// lock or change nodes on the way, the call yields and tries again.
     ///
     /// ```
     /// # fn main() -> Result<(), proved_congee::OutOfMemory> {
@@ -951,7 +1247,11 @@ impl LiveGuard {
         waiting(|| self.try_read_range_inclusive(start, last, buffer))
     }
 
-    /// The same, which doesn't wait. After [`Busy`] all of the buffer is unspecified.
+    /// Writes the first pairs with `start <= key <= last` to the buffer, keys ascending, and returns how many pairs fit.
+    /// The page is no snapshot: each key is read at a moment of the call, and no moment is before the moment of a lower
+    /// key. A key that is present throughout the call is in the page. The rest of the buffer is unspecified. Doesn't wait:
+    /// returns [`Busy`], with the map unchanged and all of the buffer unspecified, if writers locked or changed nodes of
+    /// the range at each of a bounded number of tries.
     ///
     /// ```
     /// # fn main() -> Result<(), Box<dyn std::error::Error>> {
@@ -978,39 +1278,200 @@ impl LiveGuard {
         unless_busy(code, |_| as_length(written))
     }
 
-    /// The pairs whose keys are within the bounds, keys ascending. They are read by pages of 4, then 16, and then 64, as
-    /// [`read_range`](LiveGuard::read_range). A key that stays throughout is among them.
+    /// Writes the last pairs with `start <= key <= last` to the buffer, keys descending, and returns how many pairs fit.
+    /// The page is no snapshot: each key is read at a moment of the call, and no moment is before the moment of a greater
+    /// key. Down to the page's last pair, and in the whole range if the buffer isn't full, each key that is present
+    /// throughout the call is in the page. The rest of the buffer is unspecified. Each pair takes a search of its own, as
+    /// [`below`](LiveGuard::below). While writers lock or change nodes on the way, the call yields and tries again.
     ///
     /// ```
-    /// # fn main() -> Result<(), proved_congee::OutOfMemory> {
+    /// # fn main() -> Result<(), Box<dyn std::error::Error>> {
     /// let guard = proved_congee::LiveMap::new()?.pin()?;
-    /// for key in [5, 7, 9] {
-    ///     guard.insert(key, 10 * key)?;
-    /// }
-    /// assert!(guard.range(6..).eq([(7, 70), (9, 90)]));
-    /// assert_eq!(guard.range(..5).next(), None);
+    /// guard.extend([(5, 50), (7, 70), (9, 90)])?;
+    /// let mut page = [proved_congee::Pair::default(); 2];
+    /// assert_eq!(guard.read_range_descending(0, u64::MAX, &mut page), 2);
+    /// assert_eq!(page.map(|pair| pair.key), [9, 7]);
     /// # Ok(())
     /// # }
     /// ```
-    pub fn range(&self, bounds: impl RangeBounds<u64>) -> LiveRange<'_> {
-        LiveRange::of(self, bounds)
+    pub fn read_range_descending(&self, start: u64, last: u64, buffer: &mut [Pair]) -> usize {
+        let floor = |key| Ok::<_, Infallible>(self.floor(key));
+        match pairs_down(start, last, buffer, floor) {
+            Ok(written) => written,
+            Err(never) => match never {},
+        }
     }
 
-    /// All pairs, keys ascending, as [`range`](LiveGuard::range).
+    /// Writes the last pairs with `start <= key <= last` to the buffer, keys descending, and returns how many pairs fit.
+    /// The page is no snapshot: each key is read at a moment of the call, and no moment is before the moment of a greater
+    /// key. Down to the page's last pair, and in the whole range if the buffer isn't full, each key that is present
+    /// throughout the call is in the page. The rest of the buffer is unspecified. Each pair takes a search of its own, as
+    /// [`below`](LiveGuard::below). Doesn't wait: returns [`Busy`], with the map unchanged and all of the buffer
+    /// unspecified, if writers locked or changed nodes of the range at each of a bounded number of tries.
     ///
     /// ```
-    /// # fn main() -> Result<(), proved_congee::OutOfMemory> {
+    /// # fn main() -> Result<(), Box<dyn std::error::Error>> {
     /// let guard = proved_congee::LiveMap::new()?.pin()?;
-    /// for key in [5, 7, 9] {
-    ///     guard.insert(key, 10 * key)?;
-    /// }
-    /// assert!(guard.iter().eq([(5, 50), (7, 70), (9, 90)]));
+    /// guard.extend([(5, 50), (7, 70), (9, 90)])?;
+    /// let mut page = [proved_congee::Pair::default(); 2];
+    /// assert_eq!(guard.try_read_range_descending(0, u64::MAX, &mut page)?, 2);
     /// # Ok(())
     /// # }
     /// ```
-    pub fn iter(&self) -> LiveRange<'_> {
+    pub fn try_read_range_descending(
+        &self,
+        start: u64,
+        last: u64,
+        buffer: &mut [Pair],
+    ) -> Result<usize, Busy> {
+        pairs_down(start, last, buffer, |key| self.try_floor(key))
+    }
+
+    /// Returns the pairs whose keys are within the bounds, keys ascending, from either end. Upwards the pairs are read in
+    /// pages of 4, then 16, and then 64, and downwards by a search for each pair. Each key has the value of a moment during
+    /// the iteration, and a key that is present throughout is returned.
+    ///
+    /// ```
+    /// # fn main() -> Result<(), Box<dyn std::error::Error>> {
+    /// let guard = proved_congee::LiveMap::new()?.pin()?;
+    /// guard.extend([(5, 50), (7, 70), (9, 90)])?;
+    /// assert!(guard.range(6..).eq([(7, 70), (9, 90)]));
+    /// assert!(guard.range(6..).rev().eq([(9, 90), (7, 70)]));
+    /// assert_eq!(guard.range(..=8).next_back(), Some((7, 70)));
+    /// # Ok(())
+    /// # }
+    /// ```
+    #[doc(alias("cursor", "range_mut", "scan"))]
+    pub fn range(&self, bounds: impl RangeBounds<u64>) -> Range<'_> {
+        loops::range(self, bounds)
+    }
+
+    /// Returns all pairs, keys ascending, from either end. Upwards the pairs are read in pages of 4, then 16, and then 64,
+    /// and downwards by a search for each pair. Each key has the value of a moment during the iteration, and a key that is
+    /// present throughout is returned.
+    ///
+    /// ```
+    /// # fn main() -> Result<(), Box<dyn std::error::Error>> {
+    /// let guard = proved_congee::LiveMap::new()?.pin()?;
+    /// guard.extend([(5, 50), (7, 70), (9, 90)])?;
+    /// assert!(guard.iter().eq([(5, 50), (7, 70), (9, 90)]));
+    /// // (a copy of the pairs, each of a moment of its own)
+    /// let copy = proved_congee::Map::try_from_iter(&guard)?;
+    /// assert_eq!(copy.get(7), Some(70));
+    /// # Ok(())
+    /// # }
+    /// ```
+    #[doc(alias("for_each", "iter_mut"))]
+    pub fn iter(&self) -> Range<'_> {
         self.range(..)
     }
+
+    /// Returns all keys, ascending, from either end. Upwards the pairs are read in pages of 4, then 16, and then 64, and
+    /// downwards by a search for each pair. Each key has the value of a moment during the iteration, and a key that is
+    /// present throughout is returned.
+    ///
+    /// ```
+    /// # fn main() -> Result<(), Box<dyn std::error::Error>> {
+    /// let guard = proved_congee::LiveMap::new()?.pin()?;
+    /// guard.extend([(5, 50), (7, 70), (9, 90)])?;
+    /// assert!(guard.keys().eq([5, 7, 9]));
+    /// # Ok(())
+    /// # }
+    /// ```
+    pub fn keys(&self) -> Keys<'_> {
+        Keys { of: self.iter() }
+    }
+
+    /// Returns all values, by ascending keys, from either end. Upwards the pairs are read in pages of 4, then 16, and then
+    /// 64, and downwards by a search for each pair. Each key has the value of a moment during the iteration, and a key that
+    /// is present throughout is returned.
+    ///
+    /// ```
+    /// # fn main() -> Result<(), Box<dyn std::error::Error>> {
+    /// let guard = proved_congee::LiveMap::new()?.pin()?;
+    /// guard.extend([(5, 50), (7, 70), (9, 90)])?;
+    /// assert!(guard.values().eq([50, 70, 90]));
+    /// # Ok(())
+    /// # }
+    /// ```
+    #[doc(alias = "values_mut")]
+    pub fn values(&self) -> Values<'_> {
+        Values { of: self.iter() }
+    }
+
+    /// Removes the pairs whose keys are within the bounds, one by one, keys ascending, each at a moment of its own. Returns
+    /// how many pairs this call removed. Each key that is present when the call begins is removed meanwhile, by this call
+    /// or by another. A key that another call inserts meanwhile may stay. While writers lock or change nodes on the way,
+    /// the call yields and tries again. Never out of memory.
+    ///
+    /// ```
+    /// # fn main() -> Result<(), Box<dyn std::error::Error>> {
+    /// let guard = proved_congee::LiveMap::new()?.pin()?;
+    /// guard.extend([(5, 50), (7, 70), (9, 90)])?;
+    /// assert_eq!((guard.remove_range(6..), guard.len()), (2, 1));
+    /// # Ok(())
+    /// # }
+    /// ```
+    #[doc(alias = "drain")]
+    pub fn remove_range(&self, bounds: impl RangeBounds<u64>) -> u64 {
+        loops::remove_range(self, bounds)
+    }
+
+    /// Calls `keep` with each pair, keys ascending, while nothing is locked. Each pair is read at a moment of its own, and
+    /// a key that is present throughout the call is among them. Removes the pairs for which `keep` returns false, unless
+    /// another call has changed the value meanwhile. Other calls come in between. While writers lock or change nodes on the
+    /// way, the call yields and tries again. Never out of memory.
+    ///
+    /// ```
+    /// # fn main() -> Result<(), Box<dyn std::error::Error>> {
+    /// let guard = proved_congee::LiveMap::new()?.pin()?;
+    /// guard.extend([(5, 50), (7, 70), (9, 90)])?;
+    /// guard.retain(|key, value| key > 5 && value < 90);
+    /// assert!(guard.keys().eq([7]));
+    /// # Ok(())
+    /// # }
+    /// ```
+    pub fn retain(&self, keep: impl FnMut(u64, u64) -> bool) {
+        loops::retain(self, keep);
+    }
+
+    /// Removes all pairs, one by one, keys ascending, each at a moment of its own. Each key that is present when the call
+    /// begins is removed meanwhile, by this call or by another. A key that another call inserts meanwhile may stay. While
+    /// writers lock or change nodes on the way, the call yields and tries again. Never out of memory. The map keeps its
+    /// segments.
+    ///
+    /// ```
+    /// # fn main() -> Result<(), Box<dyn std::error::Error>> {
+    /// let guard = proved_congee::LiveMap::new()?.pin()?;
+    /// guard.extend([(5, 50), (7, 70), (9, 90)])?;
+    /// guard.clear();
+    /// assert!(guard.is_empty());
+    /// # Ok(())
+    /// # }
+    /// ```
+    pub fn clear(&self) {
+        self.remove_range(..);
+    }
+}
+
+// Writes the last pairs from `start` to `last`, keys descending, by a search for the greatest key up to another one.
+fn pairs_down<E>(
+    start: u64,
+    last: u64,
+    buffer: &mut [Pair],
+    mut floor: impl FnMut(u64) -> Result<Option<(u64, u64)>, E>,
+) -> Result<usize, E> {
+    let mut unread = Some(last);
+    let mut written = 0;
+    while let (Some(at), Some(place)) = (unread, buffer.get_mut(written)) {
+        let Some((key, value)) = floor(at)?.filter(|found| found.0 >= start) else {
+            break;
+        };
+        *place = Pair { key, value };
+        written += 1;
+        unread = key.checked_sub(1);
+    }
+    Ok(written)
 }
 
 impl Drop for LiveGuard {
@@ -1023,5 +1484,14 @@ impl Drop for LiveGuard {
 impl fmt::Debug for LiveGuard {
     fn fmt(&self, f: &mut fmt::Formatter<'_>) -> fmt::Result {
         f.debug_struct("LiveGuard").finish_non_exhaustive()
+    }
+}
+
+impl<'a> IntoIterator for &'a LiveGuard {
+    type Item = (u64, u64);
+    type IntoIter = Range<'a>;
+
+    fn into_iter(self) -> Range<'a> {
+        self.iter()
     }
 }

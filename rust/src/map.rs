@@ -13,9 +13,24 @@ use std::iter::FusedIterator;
 use std::mem::ManuallyDrop;
 use std::ops::RangeBounds;
 
-/// An ordered map from `u64` to `u64`.
+/// An ordered map from `u64` to `u64`, for one thread. A call of one key reads one path through the tree, of at most eight
+/// nodes.
 ///
-/// A call reads one path through the tree, of at most eight nodes.
+/// Proved of the library beneath: each call returns what an ordered map returns, and leaves the map with exactly those
+/// pairs, for all maps and arguments. A call that returns [`OutOfMemory`] has changed nothing. This wrapper is tested, as
+/// are iterators and calls with closures, which make several calls of the library.
+///
+/// ```
+/// use proved_congee::Map;
+///
+/// # fn main() -> Result<(), proved_congee::OutOfMemory> {
+/// let mut levels = Map::try_from([(990, 5), (1_010, 7)])?;
+/// levels.insert(1_005, 2)?;
+/// assert_eq!(levels.ceiling(1_000), Some((1_005, 2)));
+/// assert_eq!(levels.pop_first(), Some((990, 5)));
+/// # Ok(())
+/// # }
+/// ```
 pub struct Map {
     map: *mut OneThreadAtATime,
 }
@@ -28,7 +43,7 @@ unsafe impl Send for Map {}
 // the library calls nothing back. The handle and each place that the library writes to are locals or borrowed as `&mut`,
 // and initialised.
 impl Map {
-    /// An empty map.
+    /// Makes an empty map without a limit. Returns [`OutOfMemory`] if there is no memory.
     ///
     /// ```
     /// # fn main() -> Result<(), proved_congee::OutOfMemory> {
@@ -36,12 +51,14 @@ impl Map {
     /// # Ok(())
     /// # }
     /// ```
+    #[doc(alias = "default")]
     pub fn new() -> Result<Map, OutOfMemory> {
         Map::with_limit(u64::MAX)
     }
 
-    /// An empty map whose nodes may take so many bytes by their stated sizes: 64, 168, 672 or 2104 bytes for a node of up to
-    /// 4, 16, 48 or 256 entries. The first node is of the largest size.
+    /// Makes an empty map whose nodes take at most so many bytes by their stated sizes: 64, 168, 672 or 2104 bytes for a
+    /// node of up to 4, 16, 48 or 256 entries. The first node has the largest size, so a limit below 2104 bytes makes no
+    /// map. The limit doesn't bound the memory that `malloc` lends, which is up to 1.8 times the stated sizes.
     ///
     /// ```
     /// use proved_congee::{Map, OutOfMemory};
@@ -52,6 +69,7 @@ impl Map {
     /// assert_eq!((map.len(), map.charged()), (1, 2168));
     /// assert!(Map::with_limit(2103).is_err());
     /// ```
+    #[doc(alias("capacity", "with_capacity"))]
     pub fn with_limit(bytes: u64) -> Result<Map, OutOfMemory> {
         let mut made = Handle::none();
         match unsafe { congee_c_new(bytes, &mut made) } {
@@ -60,7 +78,8 @@ impl Map {
         }
     }
 
-    /// A map of these pairs. Of two with one key the later one counts.
+    /// Makes a map of the pairs. Of two pairs with one key the later value remains. Returns [`OutOfMemory`] if there is no
+    /// memory.
     ///
     /// ```
     /// # fn main() -> Result<(), proved_congee::OutOfMemory> {
@@ -69,14 +88,15 @@ impl Map {
     /// # Ok(())
     /// # }
     /// ```
+    #[doc(alias("collect", "from_iter"))]
     pub fn try_from_iter(pairs: impl IntoIterator<Item = (u64, u64)>) -> Result<Map, OutOfMemory> {
         let mut map = Map::new()?;
         map.try_extend(pairs)?;
         Ok(map)
     }
 
-    /// One more map of the same pairs, with the same limit. Near that it may be refused, since a node that grows is charged
-    /// beside the one that it takes the place of.
+    /// Returns a copy of the map, with the same limit. Returns [`OutOfMemory`] if there is no memory. A map near its limit
+    /// may be refused, since a node that grows is charged beside the node that it replaces.
     ///
     /// ```
     /// # fn main() -> Result<(), proved_congee::OutOfMemory> {
@@ -88,6 +108,7 @@ impl Map {
     /// # Ok(())
     /// # }
     /// ```
+    #[doc(alias = "clone")]
     pub fn try_clone(&self) -> Result<Map, OutOfMemory> {
         let mut other = Map::with_limit(self.limit())?;
         other.try_extend(self)?;
@@ -102,7 +123,7 @@ impl Map {
         Handle { map: self.map }
     }
 
-    /// The value at the key.
+    /// Returns the value at the key, or `None` if the key is absent.
     ///
     /// ```
     /// # fn main() -> Result<(), proved_congee::OutOfMemory> {
@@ -114,13 +135,14 @@ impl Map {
     /// # Ok(())
     /// # }
     /// ```
+    #[doc(alias("find", "index", "view"))]
     pub fn get(&self, key: impl Borrow<u64>) -> Option<u64> {
         let mut value = 0;
         let code = unsafe { congee_c_get(&mut self.handle(), *key.borrow(), &mut value) };
         (code == 1).then_some(value)
     }
 
-    /// Whether the key is there.
+    /// Returns whether the map has the key.
     ///
     /// ```
     /// # fn main() -> Result<(), proved_congee::OutOfMemory> {
@@ -129,12 +151,13 @@ impl Map {
     /// # Ok(())
     /// # }
     /// ```
+    #[doc(alias = "contains")]
     pub fn contains_key(&self, key: impl Borrow<u64>) -> bool {
         self.get(key).is_some()
     }
 
-    /// Sets the key's value, and returns the previous one. Only a new key that needs a node of its own or a larger one
-    /// is refused.
+    /// Sets the key's value, and returns the previous value, or `None` for a new key. Returns [`OutOfMemory`], with the map
+    /// unchanged, only for a new key that needs a new node or a larger one.
     ///
     /// ```
     /// # fn main() -> Result<(), proved_congee::OutOfMemory> {
@@ -144,14 +167,15 @@ impl Map {
     /// # Ok(())
     /// # }
     /// ```
+    #[doc(alias("put", "upsert"))]
     pub fn insert(&mut self, key: u64, value: u64) -> Result<Option<u64>, OutOfMemory> {
         let mut before = 0;
         let code = unsafe { congee_c_insert(&mut self.handle(), key, value, &mut before) };
         unless_refused(code, before)
     }
 
-    /// Inserts the pairs, one after the other. The first refusal ends it, and the pairs before that are in the map. The error
-    /// has their number, and the pair that was refused.
+    /// Inserts the pairs one by one. The first refused pair ends the call, and the pairs before are in the map. The error
+    /// has their number and the refused pair.
     ///
     /// ```
     /// use proved_congee::Map;
@@ -163,6 +187,7 @@ impl Map {
     /// assert_eq!(map.iter().collect::<Vec<_>>(), [(1, 10), (2, 20)]);
     /// assert_eq!(pairs.next(), Some((3, 30)));
     /// ```
+    #[doc(alias("extend", "insert_many"))]
     pub fn try_extend(
         &mut self,
         pairs: impl IntoIterator<Item = (u64, u64)>,
@@ -175,8 +200,8 @@ impl Map {
         Ok(())
     }
 
-    /// Moves all pairs of another map into this one. Where both have a key, the other's value counts. The first refusal
-    /// ends it: the pairs before that are in this map, and the others still in the other.
+    /// Moves all pairs of another map into this one. If both maps have a key, the other map's value remains. The first
+    /// refused pair ends the call: the pairs before are in this map, and all further pairs stay in the other map.
     ///
     /// ```
     /// # fn main() -> Result<(), proved_congee::OutOfMemory> {
@@ -199,8 +224,8 @@ impl Map {
         moved
     }
 
-    /// Takes the pairs from the key on out, into a map of their own with the same limit. Where that is refused, nothing
-    /// changes.
+    /// Moves the pairs from the key on into a map of their own, with the same limit, and returns that map. Returns
+    /// [`OutOfMemory`], with the map unchanged, if there is no memory or the limit is reached.
     ///
     /// ```
     /// # fn main() -> Result<(), proved_congee::OutOfMemory> {
@@ -219,8 +244,8 @@ impl Map {
         Ok(other)
     }
 
-    /// Gives the key the value if it is absent, and returns the value that it has then. Refused as
-    /// [`insert`](Map::insert) is.
+    /// Inserts the value if the key is absent, and returns the key's value after the call. Returns [`OutOfMemory`], with
+    /// the map unchanged, only for a new key that needs a new node or a larger one.
     ///
     /// ```
     /// # fn main() -> Result<(), proved_congee::OutOfMemory> {
@@ -230,15 +255,16 @@ impl Map {
     /// # Ok(())
     /// # }
     /// ```
+    #[doc(alias("entry", "or_default", "or_insert"))]
     pub fn get_or_insert(&mut self, key: u64, value: u64) -> Result<u64, OutOfMemory> {
         let mut found = 0;
         let code = unsafe { congee_c_get_or_insert(&mut self.handle(), key, value, &mut found) };
         Ok(unless_refused(code, found)?.unwrap_or(value))
     }
 
-    /// The key's value. If it is absent, it gets the value that the closure returns, which is called in that case alone. A new
-    /// key takes two calls of the library. Refused as [`insert`](Map::insert) is: then the closure was called, and the map is
-    /// unchanged.
+    /// Returns the key's value. For an absent key the closure is called once, and its value is inserted and returned. A new
+    /// key takes two calls of the library. Returns [`OutOfMemory`], with the map unchanged, only for a new key that needs a
+    /// new node or a larger one.
     ///
     /// ```
     /// # fn main() -> Result<(), proved_congee::OutOfMemory> {
@@ -248,6 +274,7 @@ impl Map {
     /// # Ok(())
     /// # }
     /// ```
+    #[doc(alias("entry", "or_insert_with"))]
     pub fn get_or_insert_with(
         &mut self,
         key: u64,
@@ -263,8 +290,9 @@ impl Map {
         }
     }
 
-    /// Adds the number to the key's value, and returns the value before. A new key gets the number as its value. The sum
-    /// wraps, as `u64::wrapping_add`. Refused as [`insert`](Map::insert) is.
+    /// Adds the number to the key's value, and returns the value before, or `None` for a new key, which gets the number as
+    /// value. The sum wraps, as `u64::wrapping_add`. Returns [`OutOfMemory`], with the map unchanged, only for a new key
+    /// that needs a new node or a larger one.
     ///
     /// ```
     /// # fn main() -> Result<(), proved_congee::OutOfMemory> {
@@ -278,16 +306,16 @@ impl Map {
     /// # Ok(())
     /// # }
     /// ```
+    #[doc(alias("fetch_add", "increment"))]
     pub fn add(&mut self, key: u64, number: u64) -> Result<Option<u64>, OutOfMemory> {
         let mut before = 0;
         let code = unsafe { congee_c_add(&mut self.handle(), key, number, &mut before) };
         unless_refused(code, before)
     }
 
-    /// Calls the closure once, with the key's value if there is one, and stores what it returns, or removes the key for
-    /// `None`. Returns the previous value. Two calls of the library.
-    ///
-    /// Refused as [`insert`](Map::insert) is: then the closure was called, and the map is unchanged.
+    /// Calls the closure once, with the key's value or `None`. Stores the value that the closure returns, or removes the
+    /// key for `None`. Returns the previous value. Takes two calls of the library. Returns [`OutOfMemory`], with the map
+    /// unchanged, only for a new key that needs a new node or a larger one.
     ///
     /// ```
     /// # fn main() -> Result<(), proved_congee::OutOfMemory> {
@@ -298,6 +326,14 @@ impl Map {
     /// # Ok(())
     /// # }
     /// ```
+    #[doc(alias(
+        "alter",
+        "and_modify",
+        "compute_if_present",
+        "compute_or_insert",
+        "get_mut",
+        "update"
+    ))]
     pub fn compute(
         &mut self,
         key: u64,
@@ -309,7 +345,7 @@ impl Map {
         }
     }
 
-    /// The pair with the least key.
+    /// Returns the pair with the least key, or `None` for an empty map.
     ///
     /// ```
     /// # fn main() -> Result<(), proved_congee::OutOfMemory> {
@@ -318,12 +354,12 @@ impl Map {
     /// # Ok(())
     /// # }
     /// ```
-    #[doc(alias = "first_key_value")]
+    #[doc(alias("first_entry", "first_key_value", "min", "peek"))]
     pub fn first(&self) -> Option<(u64, u64)> {
         self.pair(|handle, pair| unsafe { congee_c_first(handle, pair) })
     }
 
-    /// The pair with the greatest key.
+    /// Returns the pair with the greatest key, or `None` for an empty map.
     ///
     /// ```
     /// # fn main() -> Result<(), proved_congee::OutOfMemory> {
@@ -332,12 +368,12 @@ impl Map {
     /// # Ok(())
     /// # }
     /// ```
-    #[doc(alias = "last_key_value")]
+    #[doc(alias("last_entry", "last_key_value", "max"))]
     pub fn last(&self) -> Option<(u64, u64)> {
         self.pair(|handle, pair| unsafe { congee_c_last(handle, pair) })
     }
 
-    /// The pair with the greatest key that is at most this one.
+    /// Returns the pair with the greatest key that is at most `key`, or `None` if no key fits.
     ///
     /// ```
     /// # fn main() -> Result<(), proved_congee::OutOfMemory> {
@@ -350,7 +386,7 @@ impl Map {
         self.pair(|handle, pair| unsafe { congee_c_floor(handle, key, pair) })
     }
 
-    /// The pair with the least key that is at least this one.
+    /// Returns the pair with the least key that is at least `key`, or `None` if no key fits.
     ///
     /// ```
     /// # fn main() -> Result<(), proved_congee::OutOfMemory> {
@@ -359,11 +395,12 @@ impl Map {
     /// # Ok(())
     /// # }
     /// ```
+    #[doc(alias = "lower_bound")]
     pub fn ceiling(&self, key: u64) -> Option<(u64, u64)> {
         self.pair(|handle, pair| unsafe { congee_c_ceiling(handle, key, pair) })
     }
 
-    /// The pair with the greatest key below this one.
+    /// Returns the pair with the greatest key below `key`, or `None` if no key fits.
     ///
     /// ```
     /// # fn main() -> Result<(), proved_congee::OutOfMemory> {
@@ -372,11 +409,12 @@ impl Map {
     /// # Ok(())
     /// # }
     /// ```
+    #[doc(alias = "predecessor")]
     pub fn below(&self, key: u64) -> Option<(u64, u64)> {
         self.pair(|handle, pair| unsafe { congee_c_below(handle, key, pair) })
     }
 
-    /// The pair with the least key above this one.
+    /// Returns the pair with the least key above `key`, or `None` if no key fits.
     ///
     /// ```
     /// # fn main() -> Result<(), proved_congee::OutOfMemory> {
@@ -385,11 +423,12 @@ impl Map {
     /// # Ok(())
     /// # }
     /// ```
+    #[doc(alias("successor", "upper_bound"))]
     pub fn above(&self, key: u64) -> Option<(u64, u64)> {
         self.pair(|handle, pair| unsafe { congee_c_above(handle, key, pair) })
     }
 
-    /// Removes the pair with the least key, and returns it. Is never refused.
+    /// Removes the pair with the least key, and returns the pair, or `None` for an empty map. A pop never fails.
     ///
     /// ```
     /// # fn main() -> Result<(), proved_congee::OutOfMemory> {
@@ -398,11 +437,12 @@ impl Map {
     /// # Ok(())
     /// # }
     /// ```
+    #[doc(alias("pop", "pop_min"))]
     pub fn pop_first(&mut self) -> Option<(u64, u64)> {
         self.pair(|handle, pair| unsafe { congee_c_pop_first(handle, pair) })
     }
 
-    /// Removes the pair with the greatest key, and returns it. Is never refused.
+    /// Removes the pair with the greatest key, and returns the pair, or `None` for an empty map. A pop never fails.
     ///
     /// ```
     /// # fn main() -> Result<(), proved_congee::OutOfMemory> {
@@ -411,12 +451,13 @@ impl Map {
     /// # Ok(())
     /// # }
     /// ```
+    #[doc(alias = "pop_max")]
     pub fn pop_last(&mut self) -> Option<(u64, u64)> {
         self.pair(|handle, pair| unsafe { congee_c_pop_last(handle, pair) })
     }
 
-    /// Removes all pairs, one by one. Takes no memory, and frees all nodes but the root. To drop a large map and make a new one is
-    /// many times faster, and returns its memory.
+    /// Removes all pairs, and returns the memory of their nodes. Never fails. If there is no memory for a new root, the
+    /// call reads one path for each pair.
     ///
     /// ```
     /// # fn main() -> Result<(), proved_congee::OutOfMemory> {
@@ -430,9 +471,9 @@ impl Map {
         unsafe { congee_c_clear(&mut self.handle()) }
     }
 
-    /// Gives memory back that is held for nodes that are gone: moves those that are left into a smaller table, unless there is no
-    /// memory for that. A removal does it where three quarters of a table are free. Pairs and charge stay. Never fails. Its cost
-    /// is that of reading each node once.
+    /// Returns memory that is held for removed nodes, by a move of the remaining nodes into a smaller table. A removal does
+    /// the same once three quarters of a table are free. Without memory for the smaller table nothing changes. Pairs and
+    /// charge stay the same, and the call never fails. The cost is that of reading each node once.
     ///
     /// ```
     /// # fn main() -> Result<(), proved_congee::OutOfMemory> {
@@ -448,8 +489,8 @@ impl Map {
         unsafe { congee_c_shrink_to_fit(&mut self.handle()) }
     }
 
-    /// Calls `keep` with each pair, keys ascending, and removes those for which it returns false. Reads pages of 64 pairs,
-    /// and removes each pair for itself. Is never refused.
+    /// Calls `keep` with each pair, keys ascending, and removes the pairs for which `keep` returns false. Never fails. The
+    /// pairs are read in pages of 64, and removed one by one.
     ///
     /// ```
     /// # fn main() -> Result<(), proved_congee::OutOfMemory> {
@@ -479,7 +520,7 @@ impl Map {
         (call(&mut self.handle(), &mut pair) == 1).then_some((pair.key, pair.value))
     }
 
-    /// Removes the key, and returns its previous value. Is never refused.
+    /// Removes the key, and returns the removed value, or `None` if the key was absent. A removal never fails.
     ///
     /// ```
     /// # fn main() -> Result<(), proved_congee::OutOfMemory> {
@@ -488,13 +529,14 @@ impl Map {
     /// # Ok(())
     /// # }
     /// ```
+    #[doc(alias("delete", "erase"))]
     pub fn remove(&mut self, key: impl Borrow<u64>) -> Option<u64> {
         let mut before = 0;
         let code = unsafe { congee_c_remove(&mut self.handle(), *key.borrow(), &mut before) };
         (code == 1).then_some(before)
     }
 
-    /// Removes the pairs whose keys are within the bounds, and returns how many they were. Is never refused.
+    /// Removes the pairs whose keys are within the bounds, and returns how many pairs were removed. Never fails.
     ///
     /// ```
     /// # fn main() -> Result<(), proved_congee::OutOfMemory> {
@@ -504,14 +546,15 @@ impl Map {
     /// # Ok(())
     /// # }
     /// ```
+    #[doc(alias = "drain")]
     pub fn remove_range(&mut self, bounds: impl RangeBounds<u64>) -> u64 {
         ends(bounds).map_or(0, |(start, last)| unsafe {
             congee_c_remove_range_inclusive(&mut self.handle(), start, last)
         })
     }
 
-    /// Replaces the key's value by `desired` if it is `expected`. Otherwise changes nothing, and returns as an error
-    /// the current value, or `None` if the key is absent.
+    /// Replaces the key's value by `desired` if the value is `expected`. Otherwise changes nothing, and returns as an error
+    /// the present value, or `None` if the key is absent. Needs no memory.
     ///
     /// ```
     /// # fn main() -> Result<(), proved_congee::OutOfMemory> {
@@ -522,6 +565,7 @@ impl Map {
     /// # Ok(())
     /// # }
     /// ```
+    #[doc(alias("cas", "compare_and_swap"))]
     pub fn compare_exchange(
         &mut self,
         key: u64,
@@ -535,8 +579,8 @@ impl Map {
         if_expected(code, found)
     }
 
-    /// Removes the key if its value is `expected`. Otherwise changes nothing, and returns as an error the current value,
-    /// or `None` if the key is absent.
+    /// Removes the key if the key's value is `expected`. Otherwise changes nothing, and returns as an error the present
+    /// value, or `None` if the key is absent. A removal never fails.
     ///
     /// ```
     /// # fn main() -> Result<(), proved_congee::OutOfMemory> {
@@ -547,6 +591,7 @@ impl Map {
     /// # Ok(())
     /// # }
     /// ```
+    #[doc(alias = "remove_if")]
     pub fn compare_remove(&mut self, key: u64, expected: u64) -> Result<(), Option<u64>> {
         let mut found = 0;
         let code =
@@ -554,8 +599,8 @@ impl Map {
         if_expected(code, found)
     }
 
-    /// Writes the first pairs with `start <= key < end` to the buffer, keys ascending, as many as there are or as fit,
-    /// and returns how many. The rest of the buffer is unchanged. So `u64::MAX` is in no such range.
+    /// Writes the first pairs with `start <= key < end` to the buffer, keys ascending, and returns how many pairs fit.
+    /// `u64::MAX` is in no such range. The rest of the buffer is unchanged.
     ///
     /// ```
     /// use proved_congee::{Map, Pair};
@@ -568,6 +613,7 @@ impl Map {
     /// # Ok(())
     /// # }
     /// ```
+    #[doc(alias("page", "scan"))]
     pub fn read_range(&self, start: u64, end: u64, buffer: &mut [Pair]) -> usize {
         unsafe {
             congee_c_range(
@@ -580,8 +626,8 @@ impl Map {
         }
     }
 
-    /// Writes the first pairs with `start <= key <= last` to the buffer, keys ascending, as many as there are or as fit, and
-    /// returns how many. The rest of the buffer is unchanged.
+    /// Writes the first pairs with `start <= key <= last` to the buffer, keys ascending, and returns how many pairs fit.
+    /// The rest of the buffer is unchanged.
     ///
     /// ```
     /// # fn main() -> Result<(), proved_congee::OutOfMemory> {
@@ -597,7 +643,8 @@ impl Map {
         unsafe { congee_c_range_inclusive(&mut self.handle(), start, last, place, n) }
     }
 
-    /// The same with keys descending: the last pairs of those.
+    /// Writes the last pairs with `start <= key <= last` to the buffer, keys descending, and returns how many pairs fit.
+    /// The rest of the buffer is unchanged.
     ///
     /// ```
     /// # fn main() -> Result<(), proved_congee::OutOfMemory> {
@@ -613,8 +660,8 @@ impl Map {
         unsafe { congee_c_range_descending(&mut self.handle(), start, last, place, n) }
     }
 
-    /// The pairs whose keys are within the bounds, keys ascending. There are none if the bounds are reversed. They are read from
-    /// the map by pages, at either end the first of 4 pairs and each four times as long, up to 64.
+    /// Returns the pairs whose keys are within the bounds, keys ascending, from either end. Reversed bounds have no pair.
+    /// The pairs are read from the map in pages, at either end the first of 4 pairs and each four times as long, up to 64.
     ///
     /// ```
     /// # fn main() -> Result<(), proved_congee::OutOfMemory> {
@@ -626,11 +673,12 @@ impl Map {
     /// # Ok(())
     /// # }
     /// ```
+    #[doc(alias("cursor", "range_mut", "scan"))]
     pub fn range(&self, bounds: impl RangeBounds<u64>) -> Range<'_> {
         Range::of(Source::Map(self), bounds)
     }
 
-    /// All pairs, keys ascending.
+    /// Returns all pairs, keys ascending, from either end.
     ///
     /// ```
     /// # fn main() -> Result<(), proved_congee::OutOfMemory> {
@@ -639,11 +687,12 @@ impl Map {
     /// # Ok(())
     /// # }
     /// ```
+    #[doc(alias("for_each", "iter_mut"))]
     pub fn iter(&self) -> Range<'_> {
         self.range(..)
     }
 
-    /// The keys, ascending.
+    /// Returns all keys, ascending, from either end.
     ///
     /// ```
     /// # fn main() -> Result<(), proved_congee::OutOfMemory> {
@@ -656,7 +705,7 @@ impl Map {
         Keys { of: self.iter() }
     }
 
-    /// The values, keys ascending.
+    /// Returns all values, by ascending keys, from either end.
     ///
     /// ```
     /// # fn main() -> Result<(), proved_congee::OutOfMemory> {
@@ -665,11 +714,12 @@ impl Map {
     /// # Ok(())
     /// # }
     /// ```
+    #[doc(alias = "values_mut")]
     pub fn values(&self) -> Values<'_> {
         Values { of: self.iter() }
     }
 
-    /// The keys of the map, ascending, and the map is gone.
+    /// Returns all keys, ascending, from either end. The map is freed with the iterator.
     ///
     /// ```
     /// # fn main() -> Result<(), proved_congee::OutOfMemory> {
@@ -682,7 +732,7 @@ impl Map {
         self.into_iter().map(|(key, _)| key)
     }
 
-    /// The values of the map, keys ascending, and the map is gone.
+    /// Returns all values, by ascending keys, from either end. The map is freed with the iterator.
     ///
     /// ```
     /// # fn main() -> Result<(), proved_congee::OutOfMemory> {
@@ -695,7 +745,7 @@ impl Map {
         self.into_iter().map(|(_, value)| value)
     }
 
-    /// Whether there is no pair, in constant time.
+    /// Returns whether the map has no pair, in constant time.
     ///
     /// ```
     /// # fn main() -> Result<(), proved_congee::OutOfMemory> {
@@ -707,7 +757,7 @@ impl Map {
         unsafe { congee_c_is_empty(&mut self.handle()) }
     }
 
-    /// How many pairs there are, in constant time.
+    /// Returns the number of pairs, in constant time.
     ///
     /// ```
     /// # fn main() -> Result<(), proved_congee::OutOfMemory> {
@@ -715,11 +765,12 @@ impl Map {
     /// # Ok(())
     /// # }
     /// ```
+    #[doc(alias("count", "size", "value_count"))]
     pub fn len(&self) -> usize {
         as_length(unsafe { congee_c_count(&mut self.handle()) })
     }
 
-    /// The sum in bytes of the stated sizes of the map's nodes, in constant time: 2104 for an empty map.
+    /// Returns the sum in bytes of the stated sizes of the map's nodes, in constant time: 2104 for an empty map.
     ///
     /// ```
     /// # fn main() -> Result<(), proved_congee::OutOfMemory> {
@@ -730,11 +781,13 @@ impl Map {
     /// # Ok(())
     /// # }
     /// ```
+    #[doc(alias("bytes", "memory_usage", "stats"))]
     pub fn charged(&self) -> u64 {
         unsafe { congee_c_charged(&mut self.handle()) }
     }
 
-    /// The limit that the map was made with, or `u64::MAX`. A frozen map and what is thawed have the same.
+    /// Returns the limit in bytes that the map was made with, or `u64::MAX` for none. A frozen map and a thawed one have
+    /// the same limit. The charged bytes are at most the limit, which is proved.
     ///
     /// ```
     /// # fn main() -> Result<(), proved_congee::OutOfMemory> {
@@ -748,8 +801,8 @@ impl Map {
         unsafe { congee_c_limit(&mut self.handle()) }
     }
 
-    /// Freezes the map: from here on nobody changes it, and it may have several readers, which look up side by side. None
-    /// of its nodes moves or is copied. Where there is no memory for two small blocks, the map is in the error, as it was.
+    /// Freezes the map: nobody changes it from then on, and several readers look up side by side. No node moves or is
+    /// copied. Without memory for two small blocks the error has the map as it was.
     ///
     /// ```
     /// # fn main() -> Result<(), proved_congee::OutOfMemory> {
@@ -761,6 +814,7 @@ impl Map {
     /// # Ok(())
     /// # }
     /// ```
+    #[doc(alias("into_read_only", "snapshot"))]
     pub fn freeze(self) -> Result<Frozen, FreezeError> {
         let (limit, charged) = (self.limit(), self.charged());
         // (the library owns the map from here on, or returns it)
@@ -890,7 +944,7 @@ impl IntoIterator for Map {
     }
 }
 
-/// An insertion of [`Map::try_extend`] was refused.
+/// The error of [`Map::try_extend`], and of `extend` of a guard: an insertion was out of memory.
 #[derive(Clone, Copy, Debug, PartialEq, Eq)]
 pub struct ExtendError {
     pub(crate) inserted: usize,
@@ -898,12 +952,24 @@ pub struct ExtendError {
 }
 
 impl ExtendError {
-    /// How many pairs were inserted before it. They are in the map.
+    /// Returns how many pairs were inserted before the refused pair. They are in the map.
+    ///
+    /// ```
+    /// let mut map = proved_congee::Map::with_limit(2104 + 64).unwrap();
+    /// let refused = map.try_extend([(1, 10), (2, 20), (u64::MAX, 30)]).unwrap_err();
+    /// assert_eq!(refused.inserted(), 2);
+    /// ```
     pub fn inserted(&self) -> usize {
         self.inserted
     }
 
-    /// The pair that was refused.
+    /// Returns the refused pair.
+    ///
+    /// ```
+    /// let mut map = proved_congee::Map::with_limit(2104 + 64).unwrap();
+    /// let refused = map.try_extend([(1, 10), (2, 20), (u64::MAX, 30)]).unwrap_err();
+    /// assert_eq!(refused.pair(), (u64::MAX, 30));
+    /// ```
     pub fn pair(&self) -> (u64, u64) {
         self.pair
     }
@@ -929,14 +995,23 @@ impl From<ExtendError> for std::io::Error {
     }
 }
 
-/// There was no memory to freeze the map, which is as it was.
+/// The error of [`Map::freeze`]: there was no memory to freeze the map, which is as it was.
 #[derive(Debug)]
 pub struct FreezeError {
     map: Map,
 }
 
 impl FreezeError {
-    /// The map.
+    /// Returns the map, as it was.
+    ///
+    /// ```
+    /// use proved_congee::{Frozen, FreezeError, Map};
+    ///
+    /// fn frozen_or_kept(map: Map) -> Result<Frozen, Map> {
+    ///     map.freeze().map_err(FreezeError::into_map)
+    /// }
+    /// assert!(frozen_or_kept(Map::new().unwrap()).is_ok());
+    /// ```
     pub fn into_map(self) -> Map {
         self.map
     }

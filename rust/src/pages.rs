@@ -19,6 +19,7 @@ pub(crate) enum Source<'a> {
     Map(&'a Map),
     Frozen(&'a Frozen),
     Shared(&'a Guard),
+    Live(&'a LiveGuard),
 }
 
 impl Source<'_> {
@@ -27,6 +28,7 @@ impl Source<'_> {
             Source::Map(map) => map.read_range_inclusive(start, last, buffer),
             Source::Frozen(frozen) => frozen.read_range_inclusive(start, last, buffer),
             Source::Shared(guard) => guard.read_range_inclusive(start, last, buffer),
+            Source::Live(guard) => guard.read_range_inclusive(start, last, buffer),
         }
     }
 
@@ -35,6 +37,7 @@ impl Source<'_> {
             Source::Map(map) => map.read_range_descending(start, last, buffer),
             Source::Frozen(frozen) => frozen.read_range_descending(start, last, buffer),
             Source::Shared(guard) => guard.read_range_descending(start, last, buffer),
+            Source::Live(guard) => guard.read_range_descending(start, last, buffer),
         }
     }
 }
@@ -70,23 +73,6 @@ impl Page {
         self.filled = read(&mut self.pairs[..room]);
         self.room = PAGE.min(room * 4);
         (self.filled == room).then(|| self.pairs[room - 1])
-    }
-
-    // The next pair upwards. Where none is left here, reads on from the first key of which nothing was read yet.
-    fn next(
-        &mut self,
-        unread: &mut Option<(u64, u64)>,
-        read: impl FnOnce(u64, u64, &mut [Pair]) -> usize,
-    ) -> Option<Pair> {
-        if self.len() == 0 {
-            if let Some((start, last)) = unread.take() {
-                *unread = self
-                    .fill(|page| read(start, last, page))
-                    .filter(|read| read.key < last)
-                    .map(|read| (read.key + 1, last));
-            }
-        }
-        self.take_first()
     }
 
     fn take_first(&mut self) -> Option<Pair> {
@@ -137,9 +123,17 @@ impl Cursor {
     }
 
     fn next(&mut self, source: Source<'_>) -> Option<Pair> {
-        let read = |start, last, page: &mut [Pair]| source.read_ascending(start, last, page);
+        if self.front.len() == 0 {
+            if let Some((start, last)) = self.unread.take() {
+                self.unread = self
+                    .front
+                    .fill(|page| source.read_ascending(start, last, page))
+                    .filter(|read| read.key < last)
+                    .map(|read| (read.key + 1, last));
+            }
+        }
         self.front
-            .next(&mut self.unread, read)
+            .take_first()
             .or_else(|| self.back.as_mut()?.take_last())
     }
 
@@ -166,7 +160,8 @@ fn key_and_value(pair: Pair) -> (u64, u64) {
     (pair.key, pair.value)
 }
 
-/// The pairs of a range, from either end.
+/// The pairs of a range, keys ascending, from either end. The library's ranges beneath are proved, and the iterator is
+/// tested. So is a range of a [`LiveMap`](crate::LiveMap) downwards, which searches pair by pair.
 #[derive(Clone)]
 pub struct Range<'a> {
     source: Source<'a>,
@@ -208,7 +203,7 @@ impl fmt::Debug for Range<'_> {
     }
 }
 
-/// The keys of a map, ascending, from either end.
+/// The keys of a map, ascending, from either end. The library's ranges beneath are proved, and the iterator is tested.
 #[derive(Clone, Debug)]
 pub struct Keys<'a> {
     pub(crate) of: Range<'a>,
@@ -234,7 +229,8 @@ impl DoubleEndedIterator for Keys<'_> {
 
 impl FusedIterator for Keys<'_> {}
 
-/// The values of a map, keys ascending, from either end.
+/// The values of a map, by ascending keys, from either end. The library's ranges beneath are proved, and the iterator is
+/// tested.
 #[derive(Clone, Debug)]
 pub struct Values<'a> {
     pub(crate) of: Range<'a>,
@@ -260,7 +256,8 @@ impl DoubleEndedIterator for Values<'_> {
 
 impl FusedIterator for Values<'_> {}
 
-/// The pairs of a map that it owns, from either end. The map is freed with it.
+/// The pairs of a map that the iterator owns, keys ascending, from either end. The map is freed with the iterator. The
+/// library's ranges beneath are proved, and the iterator is tested.
 pub struct IntoIter {
     map: Map,
     cursor: Cursor,
@@ -303,43 +300,5 @@ impl fmt::Debug for IntoIter {
     }
 }
 
-/// The pairs of a range of a [`LiveMap`](crate::LiveMap), keys ascending.
-#[derive(Clone)]
-pub struct LiveRange<'a> {
-    guard: &'a LiveGuard,
-    page: Page,
-    unread: Option<(u64, u64)>,
-}
-
-impl<'a> LiveRange<'a> {
-    pub(crate) fn of(guard: &'a LiveGuard, bounds: impl RangeBounds<u64>) -> LiveRange<'a> {
-        LiveRange {
-            guard,
-            page: Page::empty(),
-            unread: ends(bounds),
-        }
-    }
-}
-
-impl Iterator for LiveRange<'_> {
-    type Item = (u64, u64);
-
-    fn next(&mut self) -> Option<(u64, u64)> {
-        let guard = self.guard;
-        let read = |start, last, page: &mut [Pair]| guard.read_range_inclusive(start, last, page);
-        self.page.next(&mut self.unread, read).map(key_and_value)
-    }
-
-    fn size_hint(&self) -> (usize, Option<usize>) {
-        let read = self.page.len();
-        (read, self.unread.is_none().then_some(read))
-    }
-}
-
-impl FusedIterator for LiveRange<'_> {}
-
-impl fmt::Debug for LiveRange<'_> {
-    fn fmt(&self, f: &mut fmt::Formatter<'_>) -> fmt::Result {
-        f.debug_map().entries(self.clone()).finish()
-    }
-}
+/// The pairs of a range of a [`LiveMap`](crate::LiveMap), in a program that names their type.
+pub type LiveRange<'a> = Range<'a>;

@@ -1,7 +1,8 @@
 //! A map that threads share.
 
+use crate::loops;
 use crate::map::{as_length, if_expected, ExtendError};
-use crate::pages::{ends, Keys, Range, Source, Values};
+use crate::pages::{Keys, Range, Values};
 use crate::sys::*;
 use crate::{OutOfMemory, Pair};
 use std::borrow::Borrow;
@@ -11,14 +12,15 @@ use std::sync::atomic::{AtomicU64, Ordering};
 use std::sync::{Mutex, PoisonError};
 use std::thread;
 
-/// A map that threads share, each by a [`Guard`] of its own. Its calls are those of the guards, which take `&self`.
+/// A map that threads share, each by a [`Guard`] of its own. The calls are those of the guards, which take `&self`.
 ///
-/// The calls of a map are made under one lock of the library, or, of a map that [`sharded`](SharedMap::sharded) makes, under
-/// one of 64 locks, or all of them.
+/// Calls are made under one lock of the library. A map that [`sharded`](SharedMap::sharded) makes has 64 locks, and a call
+/// takes one of them or all.
 ///
-/// Proved of the library beneath: calls are *sequentially consistent*. Each guard knows a legal history of the map, which explains
-/// the guard's replies and has its own calls in their order. Guards that [meet](Guard::meet), or hand over a
-/// [note](Guard::note), are in order of time from then on.
+/// Proved of the library beneath: calls are *sequentially consistent*. Each guard has seen a legal history of the map,
+/// which explains the guard's replies and has its own calls in their order. Guards that [meet](Guard::meet), or hand over a
+/// [note](Guard::note), are in order of time from then on. A call also comes after all calls that had ended before, by
+/// whatever guard. For guards that never met, only tests show that. This wrapper is tested.
 ///
 /// ```
 /// use proved_congee::SharedMap;
@@ -41,6 +43,7 @@ use std::thread;
 /// # Ok(())
 /// # }
 /// ```
+#[doc(alias = "concurrent")]
 #[derive(Debug)]
 pub struct SharedMap {
     // (the library takes a guard as its own, also where it makes another)
@@ -49,7 +52,7 @@ pub struct SharedMap {
 }
 
 impl SharedMap {
-    /// An empty map.
+    /// Makes an empty map under one lock, without a limit. Returns [`OutOfMemory`] if there is no memory.
     ///
     /// ```
     /// # fn main() -> Result<(), proved_congee::OutOfMemory> {
@@ -57,11 +60,14 @@ impl SharedMap {
     /// # Ok(())
     /// # }
     /// ```
+    #[doc(alias = "default")]
     pub fn new() -> Result<SharedMap, OutOfMemory> {
         SharedMap::with_limit(u64::MAX)
     }
 
-    /// An empty map whose nodes may take so many bytes, as [`Map::with_limit`](crate::Map::with_limit).
+    /// Makes an empty map under one lock whose nodes take at most so many bytes by their stated sizes, as
+    /// [`Map::with_limit`](crate::Map::with_limit) counts them. Returns [`OutOfMemory`] if there is no memory, or the limit
+    /// is below 2104 bytes.
     ///
     /// ```
     /// use proved_congee::{OutOfMemory, SharedMap};
@@ -72,12 +78,14 @@ impl SharedMap {
     /// assert_eq!(guard.insert(u64::MAX, 11), Err(OutOfMemory));
     /// assert!(SharedMap::with_limit(2103).is_err());
     /// ```
+    #[doc(alias("capacity", "with_capacity"))]
     pub fn with_limit(bytes: u64) -> Result<SharedMap, OutOfMemory> {
         SharedMap::made_by(congee_c_shared_new, bytes)
     }
 
-    /// An empty map in 64 shards, for many threads. Keys that differ in their last eight bits alone are of one shard. Calls
-    /// of keys of different shards go on side by side. A call that isn't of one key takes 64 locks, and looks into 64 trees.
+    /// Makes an empty map in 64 shards with a lock each, for calls of one key by many threads. Keys that differ in their
+    /// last eight bits alone are of one shard. Calls of keys of different shards run side by side. A call that isn't of one
+    /// key takes 64 locks, and searches 64 trees.
     ///
     /// ```
     /// # fn main() -> Result<(), proved_congee::OutOfMemory> {
@@ -90,12 +98,14 @@ impl SharedMap {
     /// # Ok(())
     /// # }
     /// ```
+    #[doc(alias = "shards")]
     pub fn sharded() -> Result<SharedMap, OutOfMemory> {
         SharedMap::sharded_with_limit(u64::MAX)
     }
 
-    /// The same with a limit in bytes, of which each shard has a 64th, rounded down. So a call may be out of memory while
-    /// other shards have room. The 64 first nodes take 134,656 bytes.
+    /// Makes an empty map in 64 shards, with a limit in bytes. Each shard has a 64th of the limit, rounded down. So a call
+    /// may be out of memory while other shards have room. The 64 first nodes take 134,656 bytes, and a lower limit makes no
+    /// map.
     ///
     /// ```
     /// use proved_congee::SharedMap;
@@ -129,8 +139,9 @@ impl SharedMap {
         }
     }
 
-    /// A guard, by which one thread at a time calls the map. It may go to another thread, and may outlive this value. It
-    /// takes a small block, so keep it for many calls. Waits while another thread takes one.
+    /// Makes a guard, by which one thread at a time calls the map. A guard may go to another thread, and may outlive this
+    /// value. A guard takes a small block, so keep it for many calls. Waits while another thread makes one. Returns
+    /// [`OutOfMemory`] if there is no memory for a guard.
     ///
     /// ```
     /// # fn main() -> Result<(), proved_congee::OutOfMemory> {
@@ -141,6 +152,7 @@ impl SharedMap {
     /// # Ok(())
     /// # }
     /// ```
+    #[doc(alias("epoch", "handle"))]
     pub fn pin(&self) -> Result<Guard, OutOfMemory> {
         // (a call that panicked left the guard as it was)
         self.first
@@ -149,7 +161,8 @@ impl SharedMap {
             .try_clone()
     }
 
-    /// One more owner of the same map, as an `Arc` of this one would be.
+    /// Makes one more owner of the same map, as a clone of an `Arc` would be. Waits while another thread makes a guard.
+    /// Returns [`OutOfMemory`] if there is no memory for a guard.
     ///
     /// ```
     /// # fn main() -> Result<(), proved_congee::OutOfMemory> {
@@ -161,6 +174,7 @@ impl SharedMap {
     /// # Ok(())
     /// # }
     /// ```
+    #[doc(alias = "clone")]
     pub fn try_clone(&self) -> Result<SharedMap, OutOfMemory> {
         Ok(SharedMap {
             first: Mutex::new(self.pin()?),
@@ -168,7 +182,7 @@ impl SharedMap {
         })
     }
 
-    /// The limit that the map was made with, or `u64::MAX`.
+    /// Returns the limit in bytes that the map was made with, or `u64::MAX` for none.
     ///
     /// ```
     /// # fn main() -> Result<(), proved_congee::OutOfMemory> {
@@ -181,7 +195,21 @@ impl SharedMap {
     }
 }
 
-/// The map was in another thread's call at each of a bounded number of tries. Nothing has changed.
+/// The error of a call that doesn't wait: other threads were in the way at each of a bounded number of tries, and no pair
+/// has changed.
+///
+/// ```
+/// use proved_congee::{Busy, SharedMap};
+///
+/// # fn main() -> Result<(), proved_congee::OutOfMemory> {
+/// let guard = SharedMap::new()?.pin()?;
+/// match guard.try_get(7) {
+///     Ok(value) => assert_eq!(value, None),
+///     Err(Busy) => println!("later"),
+/// }
+/// # Ok(())
+/// # }
+/// ```
 #[derive(Clone, Copy, Debug, PartialEq, Eq)]
 pub struct Busy;
 
@@ -193,7 +221,21 @@ impl fmt::Display for Busy {
 
 impl std::error::Error for Busy {}
 
-/// Why a call that doesn't wait, and may take memory, wasn't made. Nothing has changed.
+/// The error of a call that doesn't wait and may take memory. No pair has changed.
+///
+/// ```
+/// use proved_congee::{LiveMap, TryError};
+///
+/// # fn main() -> Result<(), proved_congee::OutOfMemory> {
+/// let guard = LiveMap::new()?.pin()?;
+/// match guard.try_insert(7, 70) {
+///     Ok(before) => assert_eq!(before, None),
+///     Err(TryError::Busy) => println!("later"),
+///     Err(TryError::OutOfMemory) => return Err(proved_congee::OutOfMemory),
+/// }
+/// # Ok(())
+/// # }
+/// ```
 #[derive(Clone, Copy, Debug, PartialEq, Eq)]
 pub enum TryError {
     /// Another thread's call.
@@ -228,19 +270,34 @@ impl From<OutOfMemory> for TryError {
 /// One caller of a [`SharedMap`]: a thread's at a time. With the last guard of a map, and its `SharedMap`, the map is
 /// freed.
 ///
-/// Each call has two forms. One waits while the map is busy: it yields (`std::thread::yield_now`) and tries again. The
-/// other begins with `try_`, and returns [`Busy`] then. Those that make several calls of the library have the first form
-/// alone. So has [`try_extend`](Guard::try_extend), whose name is that of [`Map`](crate::Map).
+/// Each call of the library has two forms. The form without `try_` waits while the map is busy: it yields
+/// (`std::thread::yield_now`) and tries again. The form with `try_` doesn't wait, and returns [`Busy`]. Calls that make
+/// several calls of the library have the first form alone.
 ///
-/// A thread that is stopped between two calls keeps nobody. One that is cancelled inside a call, which takes code beside
-/// Rust, leaves the map busy for ever. So does a fork inside another thread's call, in the child.
+/// Proved of the library beneath: the guard's replies fit one legal history of the map, as [`SharedMap`] has it. A call
+/// that is busy or out of memory is not in the history. Calls that make several calls of the library are tested.
+///
+/// A thread that is stopped between two calls blocks nobody. A thread that is cancelled inside a call, which takes code
+/// beside Rust, leaves the map busy for ever. So does a fork inside another thread's call, in the child.
+///
+/// ```
+/// use proved_congee::SharedMap;
+///
+/// # fn main() -> Result<(), proved_congee::OutOfMemory> {
+/// let jobs = SharedMap::new()?.pin()?;
+/// jobs.insert(3, 30)?;
+/// jobs.insert(1, 10)?;
+/// assert_eq!(jobs.pop_first(), Some((1, 10)));
+/// # Ok(())
+/// # }
+/// ```
 pub struct Guard {
     guard: *mut OneGuardForEachThread,
     // (which map it is of)
     map: u64,
 }
 
-/// What a [`Guard`] had seen, which another thread's guard can learn ([`Guard::note`]).
+/// A note of the history that a [`Guard`] had seen, for a guard on another thread to learn ([`Guard::note`]).
 ///
 /// ```
 /// fn goes_to_another_thread<T: Send>() {}
@@ -272,7 +329,7 @@ pub(crate) fn waiting<T>(mut call: impl FnMut() -> Result<T, Busy>) -> T {
     }
 }
 
-// The same of a call that may be refused.
+// Makes a call that may be out of memory again until it isn't busy.
 pub(crate) fn waiting_for_memory<T>(
     call: impl Fn() -> Result<T, TryError>,
 ) -> Result<T, OutOfMemory> {
@@ -338,16 +395,18 @@ impl Guard {
         unless_busy(code, |code| (code == 1).then_some(pair.into()))
     }
 
-    /// One more guard of the same map. It has seen what this one had. Takes a small block.
+    /// Makes one more guard of the same map, which begins with the history that this guard has seen. Takes a small block.
+    /// Returns [`OutOfMemory`] if there is no memory for one.
     ///
     /// ```
     /// # fn main() -> Result<(), Box<dyn std::error::Error>> {
     /// let guard = proved_congee::SharedMap::new()?.pin()?;
-    /// guard.try_extend([(5, 50), (7, 70), (9, 90)])?;
+    /// guard.extend([(5, 50), (7, 70), (9, 90)])?;
     /// assert_eq!(guard.try_clone()?.get(7), Some(70));
     /// # Ok(())
     /// # }
     /// ```
+    #[doc(alias = "clone")]
     pub fn try_clone(&self) -> Result<Guard, OutOfMemory> {
         let mut made = SharedHandle::none();
         match unsafe { congee_c_shared_another(&mut self.handle(), &mut made) } {
@@ -359,12 +418,13 @@ impl Guard {
         }
     }
 
-    /// Two guards of one map meet. Both have then seen what either had, so a call that either makes later comes after all that
-    /// either had made. A guard may meet itself, which does nothing. Takes no lock.
+    /// Orders two guards of one map in time: calls that either guard had made, or had learned of, come before all later
+    /// calls of both. Both guards have then seen one history. A guard may meet itself, without effect. Never fails, and
+    /// takes no lock and no memory.
     ///
     /// # Panics
     ///
-    /// If they are of two maps.
+    /// If the guards are of two maps.
     ///
     /// ```
     /// # fn main() -> Result<(), proved_congee::OutOfMemory> {
@@ -383,9 +443,9 @@ impl Guard {
         }
     }
 
-    /// A note of what the guard has seen so far, for guards of other threads. A call of this guard that returned before
-    /// comes before each call of one that has learned the note since. Takes a small block. The map's memory is there as long as its
-    /// notes.
+    /// Makes a note of the history that the guard has seen, for a guard on another thread. All calls that this guard has
+    /// made come before the calls that a guard makes once it has [learned](Guard::learn) the note. Takes a small block. The
+    /// map lasts as long as its last note. Returns [`OutOfMemory`] if there is no memory for a note.
     ///
     /// ```
     /// use proved_congee::SharedMap;
@@ -412,7 +472,8 @@ impl Guard {
         })
     }
 
-    /// The guard has then seen what was noted, and the note what the guard has seen.
+    /// Orders the guard after a note: all calls that the note has seen come before the guard's later calls. The guard and
+    /// the note have then seen one history.
     ///
     /// # Panics
     ///
@@ -432,27 +493,30 @@ impl Guard {
         self.meet(&note.guard);
     }
 
-    /// The value at the key.
+    /// Returns the value at the key, or `None` if the key is absent. While other calls have the lock, the call yields and
+    /// tries again.
     ///
     /// ```
     /// # fn main() -> Result<(), Box<dyn std::error::Error>> {
     /// let guard = proved_congee::SharedMap::new()?.pin()?;
-    /// guard.try_extend([(5, 50), (7, 70), (9, 90)])?;
+    /// guard.extend([(5, 50), (7, 70), (9, 90)])?;
     /// assert_eq!((guard.get(7), guard.get(&8)), (Some(70), None));
     /// # Ok(())
     /// # }
     /// ```
+    #[doc(alias("find", "index", "view"))]
     pub fn get(&self, key: impl Borrow<u64>) -> Option<u64> {
         let key = *key.borrow();
         waiting(|| self.try_get(key))
     }
 
-    /// The same, which doesn't wait.
+    /// Returns the value at the key, or `None` if the key is absent. Doesn't wait: returns [`Busy`], with nothing changed,
+    /// if a lock of the call was taken at each of a bounded number of tries.
     ///
     /// ```
     /// # fn main() -> Result<(), Box<dyn std::error::Error>> {
     /// let guard = proved_congee::SharedMap::new()?.pin()?;
-    /// guard.try_extend([(5, 50), (7, 70), (9, 90)])?;
+    /// guard.extend([(5, 50), (7, 70), (9, 90)])?;
     /// assert_eq!(guard.try_get(7)?, Some(70));
     /// # Ok(())
     /// # }
@@ -462,21 +526,24 @@ impl Guard {
         self.value(|handle, value| unsafe { congee_c_shared_get(handle, key, value) })
     }
 
-    /// Whether the key is there.
+    /// Returns whether the map has the key. While other calls have the lock, the call yields and tries again.
     ///
     /// ```
     /// # fn main() -> Result<(), Box<dyn std::error::Error>> {
     /// let guard = proved_congee::SharedMap::new()?.pin()?;
-    /// guard.try_extend([(5, 50), (7, 70), (9, 90)])?;
+    /// guard.extend([(5, 50), (7, 70), (9, 90)])?;
     /// assert!(guard.contains_key(7) && !guard.contains_key(8));
     /// # Ok(())
     /// # }
     /// ```
+    #[doc(alias = "contains")]
     pub fn contains_key(&self, key: impl Borrow<u64>) -> bool {
         self.get(key).is_some()
     }
 
-    /// Sets the key's value, and returns the previous one. Refused as [`Map::insert`](crate::Map::insert).
+    /// Sets the key's value, and returns the previous value, or `None` for a new key. While other calls have the lock, the
+    /// call yields and tries again. Returns [`OutOfMemory`], with nothing changed, if there is no memory or the limit is
+    /// reached. A present key needs no memory.
     ///
     /// ```
     /// # fn main() -> Result<(), Box<dyn std::error::Error>> {
@@ -486,11 +553,15 @@ impl Guard {
     /// # Ok(())
     /// # }
     /// ```
+    #[doc(alias("put", "upsert"))]
     pub fn insert(&self, key: u64, value: u64) -> Result<Option<u64>, OutOfMemory> {
         waiting_for_memory(|| self.try_insert(key, value))
     }
 
-    /// The same, which doesn't wait.
+    /// Sets the key's value, and returns the previous value, or `None` for a new key. Doesn't wait: returns
+    /// [`TryError::Busy`], with nothing changed, if a lock of the call was taken at each of a bounded number of tries.
+    /// Returns [`TryError::OutOfMemory`], with nothing changed, if there is no memory or the limit is reached. A present
+    /// key needs no memory.
     ///
     /// ```
     /// # fn main() -> Result<(), Box<dyn std::error::Error>> {
@@ -505,30 +576,47 @@ impl Guard {
         if_made(code, before)
     }
 
-    /// Inserts the pairs, a call for each. The first refusal ends it, and the pairs before that are in the map.
+    /// Inserts the pairs one by one, and waits where [`insert`](Guard::insert) waits. Other calls come in between. The first
+    /// refused pair ends the call, and the pairs before are in the map. The error has their number and the refused pair.
     ///
     /// ```
     /// # fn main() -> Result<(), Box<dyn std::error::Error>> {
     /// let guard = proved_congee::SharedMap::new()?.pin()?;
-    /// guard.try_extend([(5, 50), (7, 70), (9, 90)])?;
+    /// guard.extend([(5, 50), (7, 70), (9, 90)])?;
     /// assert!(guard.iter().eq([(5, 50), (7, 70), (9, 90)]));
     /// # Ok(())
     /// # }
     /// ```
+    #[doc(alias = "insert_many")]
+    pub fn extend(&self, pairs: impl IntoIterator<Item = (u64, u64)>) -> Result<(), ExtendError> {
+        loops::extend(self, pairs)
+    }
+
+    /// Inserts the pairs, and waits, as [`extend`](Guard::extend), which is the call's name now: other calls of a guard with
+    /// `try_` don't wait.
+    ///
+    /// ```
+    /// # #![allow(deprecated)]
+    /// # fn main() -> Result<(), Box<dyn std::error::Error>> {
+    /// let guard = proved_congee::SharedMap::new()?.pin()?;
+    /// guard.try_extend([(5, 50), (7, 70)])?;
+    /// assert_eq!(guard.len(), 2);
+    /// # Ok(())
+    /// # }
+    /// ```
+    #[doc(alias("extend", "insert_many"))]
+    #[deprecated(note = "it waits: use `extend`")]
     pub fn try_extend(
         &self,
         pairs: impl IntoIterator<Item = (u64, u64)>,
     ) -> Result<(), ExtendError> {
-        for (inserted, pair) in pairs.into_iter().enumerate() {
-            if self.insert(pair.0, pair.1).is_err() {
-                return Err(ExtendError { inserted, pair });
-            }
-        }
-        Ok(())
+        self.extend(pairs)
     }
 
-    /// Gives the key the value if it is absent, and returns the value that it has then. Who gave it that is told by
-    /// [`insert_absent`](Guard::insert_absent). Refused as [`insert`](Guard::insert).
+    /// Inserts the value if the key is absent, and returns the key's value after the call.
+    /// [`insert_absent`](Guard::insert_absent) also reports who inserted the value. While other calls have the lock, the
+    /// call yields and tries again. Returns [`OutOfMemory`], with nothing changed, if there is no memory or the limit is
+    /// reached. A present key needs no memory.
     ///
     /// ```
     /// # fn main() -> Result<(), Box<dyn std::error::Error>> {
@@ -538,11 +626,16 @@ impl Guard {
     /// # Ok(())
     /// # }
     /// ```
+    #[doc(alias("entry", "or_default", "or_insert"))]
     pub fn get_or_insert(&self, key: u64, value: u64) -> Result<u64, OutOfMemory> {
         waiting_for_memory(|| self.try_get_or_insert(key, value))
     }
 
-    /// The same, which doesn't wait.
+    /// Inserts the value if the key is absent, and returns the key's value after the call.
+    /// [`insert_absent`](Guard::insert_absent) also reports who inserted the value. Doesn't wait: returns
+    /// [`TryError::Busy`], with nothing changed, if a lock of the call was taken at each of a bounded number of tries.
+    /// Returns [`TryError::OutOfMemory`], with nothing changed, if there is no memory or the limit is reached. A present
+    /// key needs no memory.
     ///
     /// ```
     /// # fn main() -> Result<(), Box<dyn std::error::Error>> {
@@ -555,8 +648,10 @@ impl Guard {
         Ok(self.try_insert_absent(key, value)?.unwrap_or(value))
     }
 
-    /// Gives the key the value if it is absent. Returns `None` to the guard that inserted it, and the current value to all
-    /// others. So of threads that claim one key at once, one gets `None`. Refused as [`insert`](Guard::insert).
+    /// Inserts the value if the key is absent, and returns `None`. Otherwise changes nothing, and returns the present
+    /// value. Of threads that claim one key at once, one gets `None`. While other calls have the lock, the call yields and
+    /// tries again. Returns [`OutOfMemory`], with nothing changed, if there is no memory or the limit is reached. A present
+    /// key needs no memory.
     ///
     /// ```
     /// use proved_congee::SharedMap;
@@ -572,11 +667,16 @@ impl Guard {
     /// # Ok(())
     /// # }
     /// ```
+    #[doc(alias("insert_if_absent", "try_insert"))]
     pub fn insert_absent(&self, key: u64, value: u64) -> Result<Option<u64>, OutOfMemory> {
         waiting_for_memory(|| self.try_insert_absent(key, value))
     }
 
-    /// The same, which doesn't wait.
+    /// Inserts the value if the key is absent, and returns `None`. Otherwise changes nothing, and returns the present
+    /// value. Of threads that claim one key at once, one gets `None`. Doesn't wait: returns [`TryError::Busy`], with
+    /// nothing changed, if a lock of the call was taken at each of a bounded number of tries. Returns
+    /// [`TryError::OutOfMemory`], with nothing changed, if there is no memory or the limit is reached. A present key needs
+    /// no memory.
     ///
     /// ```
     /// # fn main() -> Result<(), Box<dyn std::error::Error>> {
@@ -593,51 +693,58 @@ impl Guard {
         if_made(code, found)
     }
 
-    /// The key's value. If it is absent, it gets the value that the closure returns, unless another call gives it one
-    /// meanwhile. The closure is called outside of the lock, so it may take long, or call the map. Refused as
-    /// [`insert`](Guard::insert).
+    /// Returns the key's value. For an absent key the closure is called once, and its value is inserted and returned,
+    /// unless another call inserts the key meanwhile: then that call's value is returned. The closure is called outside of
+    /// the lock, so it may take long, or call the map. While other calls have the lock, the call yields and tries again.
+    /// Returns [`OutOfMemory`], with nothing changed, if there is no memory or the limit is reached. A present key needs no
+    /// memory.
     ///
     /// ```
     /// # fn main() -> Result<(), Box<dyn std::error::Error>> {
     /// let guard = proved_congee::SharedMap::new()?.pin()?;
-    /// guard.try_extend([(5, 50), (7, 70), (9, 90)])?;
+    /// guard.extend([(5, 50), (7, 70), (9, 90)])?;
     /// assert_eq!(guard.get_or_insert_with(7, || 1)?, 70);
     /// assert_eq!(guard.get_or_insert_with(8, || 80)?, 80);
     /// # Ok(())
     /// # }
     /// ```
+    #[doc(alias("entry", "or_insert_with"))]
     pub fn get_or_insert_with(
         &self,
         key: u64,
         f: impl FnOnce() -> u64,
     ) -> Result<u64, OutOfMemory> {
-        match self.get(key) {
-            Some(value) => Ok(value),
-            None => self.get_or_insert(key, f()),
-        }
+        loops::get_or_insert_with(self, key, f)
     }
 
-    /// Adds the number to the key's value, as [`Map::add`](crate::Map::add), and returns the value before.
+    /// Adds the number to the key's value, and returns the value before, or `None` for a new key, which gets the number as
+    /// value. The sum wraps, as `u64::wrapping_add`. While other calls have the lock, the call yields and tries again.
+    /// Returns [`OutOfMemory`], with nothing changed, if there is no memory or the limit is reached. A present key needs no
+    /// memory.
     ///
     /// ```
     /// # fn main() -> Result<(), Box<dyn std::error::Error>> {
     /// let guard = proved_congee::SharedMap::new()?.pin()?;
-    /// guard.try_extend([(5, 50), (7, 70), (9, 90)])?;
+    /// guard.extend([(5, 50), (7, 70), (9, 90)])?;
     /// assert_eq!(guard.add(7, 1)?, Some(70));
     /// assert_eq!((guard.get(7), guard.add(8, 1)?), (Some(71), None));
     /// # Ok(())
     /// # }
     /// ```
+    #[doc(alias("fetch_add", "increment"))]
     pub fn add(&self, key: u64, number: u64) -> Result<Option<u64>, OutOfMemory> {
         waiting_for_memory(|| self.try_add(key, number))
     }
 
-    /// The same, which doesn't wait.
+    /// Adds the number to the key's value, and returns the value before, or `None` for a new key, which gets the number as
+    /// value. The sum wraps, as `u64::wrapping_add`. Doesn't wait: returns [`TryError::Busy`], with nothing changed, if a
+    /// lock of the call was taken at each of a bounded number of tries. Returns [`TryError::OutOfMemory`], with nothing
+    /// changed, if there is no memory or the limit is reached. A present key needs no memory.
     ///
     /// ```
     /// # fn main() -> Result<(), Box<dyn std::error::Error>> {
     /// let guard = proved_congee::SharedMap::new()?.pin()?;
-    /// guard.try_extend([(5, 50), (7, 70), (9, 90)])?;
+    /// guard.extend([(5, 50), (7, 70), (9, 90)])?;
     /// assert_eq!(guard.try_add(7, 1)?, Some(70));
     /// # Ok(())
     /// # }
@@ -648,66 +755,61 @@ impl Guard {
         if_made(code, before)
     }
 
-    /// Stores what the closure makes of the key's value, or removes the key for `None`. Returns the previous value. If
-    /// another call changes the key meanwhile, the closure is called again, with the value that the key has then. It is
-    /// called outside of the lock. Refused as [`insert`](Guard::insert).
+    /// Calls the closure with the key's value or `None`. Stores the value that the closure returns, or removes the key for
+    /// `None`. Returns the previous value. If another call changes the key meanwhile, the closure is called again with the
+    /// new value. The closure is called outside of the lock. While other calls have the lock, the call yields and tries
+    /// again. Returns [`OutOfMemory`], with nothing changed, if there is no memory or the limit is reached. A present key
+    /// needs no memory.
     ///
     /// ```
     /// # fn main() -> Result<(), Box<dyn std::error::Error>> {
     /// let guard = proved_congee::SharedMap::new()?.pin()?;
-    /// guard.try_extend([(5, 50), (7, 70), (9, 90)])?;
+    /// guard.extend([(5, 50), (7, 70), (9, 90)])?;
     /// let halved = guard.compute(7, |value| Some(value? / 2))?;
     /// assert_eq!((halved, guard.get(7)), (Some(70), Some(35)));
     /// assert_eq!((guard.compute(7, |_| None)?, guard.get(7)), (Some(35), None));
     /// # Ok(())
     /// # }
     /// ```
+    #[doc(alias(
+        "alter",
+        "and_modify",
+        "compute_if_present",
+        "compute_or_insert",
+        "get_mut",
+        "update"
+    ))]
     pub fn compute(
         &self,
         key: u64,
-        mut f: impl FnMut(Option<u64>) -> Option<u64>,
+        f: impl FnMut(Option<u64>) -> Option<u64>,
     ) -> Result<Option<u64>, OutOfMemory> {
-        let mut before = self.get(key);
-        loop {
-            let made = match (before, f(before)) {
-                (None, None) => Ok(()),
-                (None, Some(value)) => self.insert_new(key, value)?,
-                (Some(current), None) => self.compare_remove(key, current),
-                (Some(current), Some(value)) => self.compare_exchange(key, current, value),
-            };
-            match made {
-                Ok(()) => return Ok(before),
-                Err(current) => before = current,
-            }
-        }
+        loops::compute(self, key, f)
     }
 
-    // Gives the key the value if it is absent, and else returns the value that it has.
-    fn insert_new(&self, key: u64, value: u64) -> Result<Result<(), Option<u64>>, OutOfMemory> {
-        let found = self.insert_absent(key, value)?;
-        Ok(found.map_or(Ok(()), |found| Err(Some(found))))
-    }
-
-    /// The pair with the least key.
+    /// Returns the pair with the least key, or `None` for an empty map. While other calls have the lock, the call yields
+    /// and tries again.
     ///
     /// ```
     /// # fn main() -> Result<(), Box<dyn std::error::Error>> {
     /// let guard = proved_congee::SharedMap::new()?.pin()?;
-    /// guard.try_extend([(5, 50), (7, 70), (9, 90)])?;
+    /// guard.extend([(5, 50), (7, 70), (9, 90)])?;
     /// assert_eq!(guard.first(), Some((5, 50)));
     /// # Ok(())
     /// # }
     /// ```
+    #[doc(alias("first_entry", "first_key_value", "min", "peek"))]
     pub fn first(&self) -> Option<(u64, u64)> {
         waiting(|| self.try_first())
     }
 
-    /// The same, which doesn't wait.
+    /// Returns the pair with the least key, or `None` for an empty map. Doesn't wait: returns [`Busy`], with nothing
+    /// changed, if a lock of the call was taken at each of a bounded number of tries.
     ///
     /// ```
     /// # fn main() -> Result<(), Box<dyn std::error::Error>> {
     /// let guard = proved_congee::SharedMap::new()?.pin()?;
-    /// guard.try_extend([(5, 50), (7, 70), (9, 90)])?;
+    /// guard.extend([(5, 50), (7, 70), (9, 90)])?;
     /// assert_eq!(guard.try_first()?, Some((5, 50)));
     /// # Ok(())
     /// # }
@@ -716,26 +818,29 @@ impl Guard {
         self.pair(|handle, pair| unsafe { congee_c_shared_first(handle, pair) })
     }
 
-    /// The pair with the greatest key.
+    /// Returns the pair with the greatest key, or `None` for an empty map. While other calls have the lock, the call yields
+    /// and tries again.
     ///
     /// ```
     /// # fn main() -> Result<(), Box<dyn std::error::Error>> {
     /// let guard = proved_congee::SharedMap::new()?.pin()?;
-    /// guard.try_extend([(5, 50), (7, 70), (9, 90)])?;
+    /// guard.extend([(5, 50), (7, 70), (9, 90)])?;
     /// assert_eq!(guard.last(), Some((9, 90)));
     /// # Ok(())
     /// # }
     /// ```
+    #[doc(alias("last_entry", "last_key_value", "max"))]
     pub fn last(&self) -> Option<(u64, u64)> {
         waiting(|| self.try_last())
     }
 
-    /// The same, which doesn't wait.
+    /// Returns the pair with the greatest key, or `None` for an empty map. Doesn't wait: returns [`Busy`], with nothing
+    /// changed, if a lock of the call was taken at each of a bounded number of tries.
     ///
     /// ```
     /// # fn main() -> Result<(), Box<dyn std::error::Error>> {
     /// let guard = proved_congee::SharedMap::new()?.pin()?;
-    /// guard.try_extend([(5, 50), (7, 70), (9, 90)])?;
+    /// guard.extend([(5, 50), (7, 70), (9, 90)])?;
     /// assert_eq!(guard.try_last()?, Some((9, 90)));
     /// # Ok(())
     /// # }
@@ -744,12 +849,13 @@ impl Guard {
         self.pair(|handle, pair| unsafe { congee_c_shared_last(handle, pair) })
     }
 
-    /// The pair with the greatest key that is at most this one.
+    /// Returns the pair with the greatest key that is at most `key`, or `None` if no key fits. While other calls have the
+    /// lock, the call yields and tries again.
     ///
     /// ```
     /// # fn main() -> Result<(), Box<dyn std::error::Error>> {
     /// let guard = proved_congee::SharedMap::new()?.pin()?;
-    /// guard.try_extend([(5, 50), (7, 70), (9, 90)])?;
+    /// guard.extend([(5, 50), (7, 70), (9, 90)])?;
     /// assert_eq!((guard.floor(8), guard.floor(4)), (Some((7, 70)), None));
     /// # Ok(())
     /// # }
@@ -758,12 +864,13 @@ impl Guard {
         waiting(|| self.try_floor(key))
     }
 
-    /// The same, which doesn't wait.
+    /// Returns the pair with the greatest key that is at most `key`, or `None` if no key fits. Doesn't wait: returns
+    /// [`Busy`], with nothing changed, if a lock of the call was taken at each of a bounded number of tries.
     ///
     /// ```
     /// # fn main() -> Result<(), Box<dyn std::error::Error>> {
     /// let guard = proved_congee::SharedMap::new()?.pin()?;
-    /// guard.try_extend([(5, 50), (7, 70), (9, 90)])?;
+    /// guard.extend([(5, 50), (7, 70), (9, 90)])?;
     /// assert_eq!(guard.try_floor(8)?, Some((7, 70)));
     /// # Ok(())
     /// # }
@@ -772,26 +879,29 @@ impl Guard {
         self.pair(|handle, pair| unsafe { congee_c_shared_floor(handle, key, pair) })
     }
 
-    /// The pair with the least key that is at least this one.
+    /// Returns the pair with the least key that is at least `key`, or `None` if no key fits. While other calls have the
+    /// lock, the call yields and tries again.
     ///
     /// ```
     /// # fn main() -> Result<(), Box<dyn std::error::Error>> {
     /// let guard = proved_congee::SharedMap::new()?.pin()?;
-    /// guard.try_extend([(5, 50), (7, 70), (9, 90)])?;
+    /// guard.extend([(5, 50), (7, 70), (9, 90)])?;
     /// assert_eq!((guard.ceiling(6), guard.ceiling(10)), (Some((7, 70)), None));
     /// # Ok(())
     /// # }
     /// ```
+    #[doc(alias = "lower_bound")]
     pub fn ceiling(&self, key: u64) -> Option<(u64, u64)> {
         waiting(|| self.try_ceiling(key))
     }
 
-    /// The same, which doesn't wait.
+    /// Returns the pair with the least key that is at least `key`, or `None` if no key fits. Doesn't wait: returns
+    /// [`Busy`], with nothing changed, if a lock of the call was taken at each of a bounded number of tries.
     ///
     /// ```
     /// # fn main() -> Result<(), Box<dyn std::error::Error>> {
     /// let guard = proved_congee::SharedMap::new()?.pin()?;
-    /// guard.try_extend([(5, 50), (7, 70), (9, 90)])?;
+    /// guard.extend([(5, 50), (7, 70), (9, 90)])?;
     /// assert_eq!(guard.try_ceiling(6)?, Some((7, 70)));
     /// # Ok(())
     /// # }
@@ -800,26 +910,29 @@ impl Guard {
         self.pair(|handle, pair| unsafe { congee_c_shared_ceiling(handle, key, pair) })
     }
 
-    /// The pair with the greatest key below this one.
+    /// Returns the pair with the greatest key below `key`, or `None` if no key fits. While other calls have the lock, the
+    /// call yields and tries again.
     ///
     /// ```
     /// # fn main() -> Result<(), Box<dyn std::error::Error>> {
     /// let guard = proved_congee::SharedMap::new()?.pin()?;
-    /// guard.try_extend([(5, 50), (7, 70), (9, 90)])?;
+    /// guard.extend([(5, 50), (7, 70), (9, 90)])?;
     /// assert_eq!((guard.below(7), guard.below(5)), (Some((5, 50)), None));
     /// # Ok(())
     /// # }
     /// ```
+    #[doc(alias = "predecessor")]
     pub fn below(&self, key: u64) -> Option<(u64, u64)> {
         waiting(|| self.try_below(key))
     }
 
-    /// The same, which doesn't wait.
+    /// Returns the pair with the greatest key below `key`, or `None` if no key fits. Doesn't wait: returns [`Busy`], with
+    /// nothing changed, if a lock of the call was taken at each of a bounded number of tries.
     ///
     /// ```
     /// # fn main() -> Result<(), Box<dyn std::error::Error>> {
     /// let guard = proved_congee::SharedMap::new()?.pin()?;
-    /// guard.try_extend([(5, 50), (7, 70), (9, 90)])?;
+    /// guard.extend([(5, 50), (7, 70), (9, 90)])?;
     /// assert_eq!(guard.try_below(7)?, Some((5, 50)));
     /// # Ok(())
     /// # }
@@ -828,26 +941,29 @@ impl Guard {
         self.pair(|handle, pair| unsafe { congee_c_shared_below(handle, key, pair) })
     }
 
-    /// The pair with the least key above this one.
+    /// Returns the pair with the least key above `key`, or `None` if no key fits. While other calls have the lock, the call
+    /// yields and tries again.
     ///
     /// ```
     /// # fn main() -> Result<(), Box<dyn std::error::Error>> {
     /// let guard = proved_congee::SharedMap::new()?.pin()?;
-    /// guard.try_extend([(5, 50), (7, 70), (9, 90)])?;
+    /// guard.extend([(5, 50), (7, 70), (9, 90)])?;
     /// assert_eq!((guard.above(7), guard.above(9)), (Some((9, 90)), None));
     /// # Ok(())
     /// # }
     /// ```
+    #[doc(alias("successor", "upper_bound"))]
     pub fn above(&self, key: u64) -> Option<(u64, u64)> {
         waiting(|| self.try_above(key))
     }
 
-    /// The same, which doesn't wait.
+    /// Returns the pair with the least key above `key`, or `None` if no key fits. Doesn't wait: returns [`Busy`], with
+    /// nothing changed, if a lock of the call was taken at each of a bounded number of tries.
     ///
     /// ```
     /// # fn main() -> Result<(), Box<dyn std::error::Error>> {
     /// let guard = proved_congee::SharedMap::new()?.pin()?;
-    /// guard.try_extend([(5, 50), (7, 70), (9, 90)])?;
+    /// guard.extend([(5, 50), (7, 70), (9, 90)])?;
     /// assert_eq!(guard.try_above(7)?, Some((9, 90)));
     /// # Ok(())
     /// # }
@@ -856,26 +972,30 @@ impl Guard {
         self.pair(|handle, pair| unsafe { congee_c_shared_above(handle, key, pair) })
     }
 
-    /// Removes the pair with the least key, and returns it. Is never refused.
+    /// Removes the pair with the least key, and returns the pair, or `None` for an empty map. A pop is never out of memory.
+    /// While other calls have the lock, the call yields and tries again.
     ///
     /// ```
     /// # fn main() -> Result<(), Box<dyn std::error::Error>> {
     /// let guard = proved_congee::SharedMap::new()?.pin()?;
-    /// guard.try_extend([(5, 50), (7, 70), (9, 90)])?;
+    /// guard.extend([(5, 50), (7, 70), (9, 90)])?;
     /// assert_eq!((guard.pop_first(), guard.first()), (Some((5, 50)), Some((7, 70))));
     /// # Ok(())
     /// # }
     /// ```
+    #[doc(alias("pop", "pop_min"))]
     pub fn pop_first(&self) -> Option<(u64, u64)> {
         waiting(|| self.try_pop_first())
     }
 
-    /// The same, which doesn't wait.
+    /// Removes the pair with the least key, and returns the pair, or `None` for an empty map. A pop is never out of memory.
+    /// Doesn't wait: returns [`Busy`], with nothing changed, if a lock of the call was taken at each of a bounded number of
+    /// tries.
     ///
     /// ```
     /// # fn main() -> Result<(), Box<dyn std::error::Error>> {
     /// let guard = proved_congee::SharedMap::new()?.pin()?;
-    /// guard.try_extend([(5, 50), (7, 70), (9, 90)])?;
+    /// guard.extend([(5, 50), (7, 70), (9, 90)])?;
     /// assert_eq!(guard.try_pop_first()?, Some((5, 50)));
     /// # Ok(())
     /// # }
@@ -884,26 +1004,30 @@ impl Guard {
         self.pair(|handle, pair| unsafe { congee_c_shared_pop_first(handle, pair) })
     }
 
-    /// Removes the pair with the greatest key, and returns it. Is never refused.
+    /// Removes the pair with the greatest key, and returns the pair, or `None` for an empty map. A pop is never out of
+    /// memory. While other calls have the lock, the call yields and tries again.
     ///
     /// ```
     /// # fn main() -> Result<(), Box<dyn std::error::Error>> {
     /// let guard = proved_congee::SharedMap::new()?.pin()?;
-    /// guard.try_extend([(5, 50), (7, 70), (9, 90)])?;
+    /// guard.extend([(5, 50), (7, 70), (9, 90)])?;
     /// assert_eq!((guard.pop_last(), guard.last()), (Some((9, 90)), Some((7, 70))));
     /// # Ok(())
     /// # }
     /// ```
+    #[doc(alias = "pop_max")]
     pub fn pop_last(&self) -> Option<(u64, u64)> {
         waiting(|| self.try_pop_last())
     }
 
-    /// The same, which doesn't wait.
+    /// Removes the pair with the greatest key, and returns the pair, or `None` for an empty map. A pop is never out of
+    /// memory. Doesn't wait: returns [`Busy`], with nothing changed, if a lock of the call was taken at each of a bounded
+    /// number of tries.
     ///
     /// ```
     /// # fn main() -> Result<(), Box<dyn std::error::Error>> {
     /// let guard = proved_congee::SharedMap::new()?.pin()?;
-    /// guard.try_extend([(5, 50), (7, 70), (9, 90)])?;
+    /// guard.extend([(5, 50), (7, 70), (9, 90)])?;
     /// assert_eq!(guard.try_pop_last()?, Some((9, 90)));
     /// # Ok(())
     /// # }
@@ -912,27 +1036,31 @@ impl Guard {
         self.pair(|handle, pair| unsafe { congee_c_shared_pop_last(handle, pair) })
     }
 
-    /// Removes the key, and returns its previous value. Is never refused.
+    /// Removes the key, and returns the removed value, or `None` if the key was absent. A removal is never out of memory.
+    /// While other calls have the lock, the call yields and tries again.
     ///
     /// ```
     /// # fn main() -> Result<(), Box<dyn std::error::Error>> {
     /// let guard = proved_congee::SharedMap::new()?.pin()?;
-    /// guard.try_extend([(5, 50), (7, 70), (9, 90)])?;
+    /// guard.extend([(5, 50), (7, 70), (9, 90)])?;
     /// assert_eq!((guard.remove(7), guard.remove(7)), (Some(70), None));
     /// # Ok(())
     /// # }
     /// ```
+    #[doc(alias("delete", "erase"))]
     pub fn remove(&self, key: impl Borrow<u64>) -> Option<u64> {
         let key = *key.borrow();
         waiting(|| self.try_remove(key))
     }
 
-    /// The same, which doesn't wait.
+    /// Removes the key, and returns the removed value, or `None` if the key was absent. A removal is never out of memory.
+    /// Doesn't wait: returns [`Busy`], with nothing changed, if a lock of the call was taken at each of a bounded number of
+    /// tries.
     ///
     /// ```
     /// # fn main() -> Result<(), Box<dyn std::error::Error>> {
     /// let guard = proved_congee::SharedMap::new()?.pin()?;
-    /// guard.try_extend([(5, 50), (7, 70), (9, 90)])?;
+    /// guard.extend([(5, 50), (7, 70), (9, 90)])?;
     /// assert_eq!(guard.try_remove(7)?, Some(70));
     /// # Ok(())
     /// # }
@@ -942,19 +1070,21 @@ impl Guard {
         self.value(|handle, value| unsafe { congee_c_shared_remove(handle, key, value) })
     }
 
-    /// Replaces the key's value by `desired` if it is `expected`. Otherwise changes nothing, and returns as an error the
-    /// current value, or `None` if the key is absent.
+    /// Replaces the key's value by `desired` if the value is `expected`. Otherwise changes nothing, and returns as an error
+    /// the present value, or `None` if the key is absent. Needs no memory. While other calls have the lock, the call yields
+    /// and tries again.
     ///
     /// ```
     /// # fn main() -> Result<(), Box<dyn std::error::Error>> {
     /// let guard = proved_congee::SharedMap::new()?.pin()?;
-    /// guard.try_extend([(5, 50), (7, 70), (9, 90)])?;
+    /// guard.extend([(5, 50), (7, 70), (9, 90)])?;
     /// assert_eq!(guard.compare_exchange(7, 70, 71), Ok(()));
     /// assert_eq!(guard.compare_exchange(7, 70, 72), Err(Some(71)));
     /// assert_eq!(guard.compare_exchange(8, 70, 72), Err(None));
     /// # Ok(())
     /// # }
     /// ```
+    #[doc(alias("cas", "compare_and_swap"))]
     pub fn compare_exchange(
         &self,
         key: u64,
@@ -964,12 +1094,14 @@ impl Guard {
         waiting(|| self.try_compare_exchange(key, expected, desired))
     }
 
-    /// The same, which doesn't wait.
+    /// Replaces the key's value by `desired` if the value is `expected`. Otherwise changes nothing, and returns as an error
+    /// the present value, or `None` if the key is absent. Needs no memory. Doesn't wait: returns [`Busy`], with nothing
+    /// changed, if a lock of the call was taken at each of a bounded number of tries.
     ///
     /// ```
     /// # fn main() -> Result<(), Box<dyn std::error::Error>> {
     /// let guard = proved_congee::SharedMap::new()?.pin()?;
-    /// guard.try_extend([(5, 50), (7, 70), (9, 90)])?;
+    /// guard.extend([(5, 50), (7, 70), (9, 90)])?;
     /// assert_eq!(guard.try_compare_exchange(7, 70, 71)?, Ok(()));
     /// # Ok(())
     /// # }
@@ -987,28 +1119,32 @@ impl Guard {
         unless_busy(code, |code| if_expected(code, found))
     }
 
-    /// Removes the key if its value is `expected`. Otherwise changes nothing, and returns as an error the current value, or
-    /// `None` if the key is absent.
+    /// Removes the key if the key's value is `expected`. Otherwise changes nothing, and returns as an error the present
+    /// value, or `None` if the key is absent. A removal is never out of memory. While other calls have the lock, the call
+    /// yields and tries again.
     ///
     /// ```
     /// # fn main() -> Result<(), Box<dyn std::error::Error>> {
     /// let guard = proved_congee::SharedMap::new()?.pin()?;
-    /// guard.try_extend([(5, 50), (7, 70), (9, 90)])?;
+    /// guard.extend([(5, 50), (7, 70), (9, 90)])?;
     /// assert_eq!(guard.compare_remove(7, 71), Err(Some(70)));
     /// assert_eq!(guard.compare_remove(7, 70), Ok(()));
     /// # Ok(())
     /// # }
     /// ```
+    #[doc(alias = "remove_if")]
     pub fn compare_remove(&self, key: u64, expected: u64) -> Result<(), Option<u64>> {
         waiting(|| self.try_compare_remove(key, expected))
     }
 
-    /// The same, which doesn't wait.
+    /// Removes the key if the key's value is `expected`. Otherwise changes nothing, and returns as an error the present
+    /// value, or `None` if the key is absent. A removal is never out of memory. Doesn't wait: returns [`Busy`], with
+    /// nothing changed, if a lock of the call was taken at each of a bounded number of tries.
     ///
     /// ```
     /// # fn main() -> Result<(), Box<dyn std::error::Error>> {
     /// let guard = proved_congee::SharedMap::new()?.pin()?;
-    /// guard.try_extend([(5, 50), (7, 70), (9, 90)])?;
+    /// guard.extend([(5, 50), (7, 70), (9, 90)])?;
     /// assert_eq!(guard.try_compare_remove(7, 70)?, Ok(()));
     /// # Ok(())
     /// # }
@@ -1025,29 +1161,34 @@ impl Guard {
         unless_busy(code, |code| if_expected(code, found))
     }
 
-    /// Writes the first pairs with `start <= key < end` to the buffer, keys ascending, as many as there are or as fit, and
-    /// returns how many. They are those of one moment.
+    /// Writes the first pairs with `start <= key < end` to the buffer, keys ascending, and returns how many pairs fit.
+    /// `u64::MAX` is in no such range. All pairs of the page are of one moment. The rest of the buffer is unchanged. While
+    /// other calls have the lock, the call yields and tries again.
     ///
     /// ```
     /// # fn main() -> Result<(), Box<dyn std::error::Error>> {
     /// let guard = proved_congee::SharedMap::new()?.pin()?;
-    /// guard.try_extend([(5, 50), (7, 70), (9, 90)])?;
+    /// guard.extend([(5, 50), (7, 70), (9, 90)])?;
     /// let mut page = [proved_congee::Pair::default(); 2];
     /// assert_eq!(guard.read_range(6, 9, &mut page), 1);
     /// assert_eq!(page.map(|pair| pair.key), [7, 0]);
     /// # Ok(())
     /// # }
     /// ```
+    #[doc(alias("page", "scan"))]
     pub fn read_range(&self, start: u64, end: u64, buffer: &mut [Pair]) -> usize {
         waiting(|| self.try_read_range(start, end, buffer))
     }
 
-    /// The same, which doesn't wait.
+    /// Writes the first pairs with `start <= key < end` to the buffer, keys ascending, and returns how many pairs fit.
+    /// `u64::MAX` is in no such range. All pairs of the page are of one moment. The rest of the buffer is unchanged.
+    /// Doesn't wait: returns [`Busy`], with nothing changed, if a lock of the call was taken at each of a bounded number of
+    /// tries.
     ///
     /// ```
     /// # fn main() -> Result<(), Box<dyn std::error::Error>> {
     /// let guard = proved_congee::SharedMap::new()?.pin()?;
-    /// guard.try_extend([(5, 50), (7, 70), (9, 90)])?;
+    /// guard.extend([(5, 50), (7, 70), (9, 90)])?;
     /// let mut page = [proved_congee::Pair::default(); 2];
     /// assert_eq!(guard.try_read_range(6, 9, &mut page)?, 1);
     /// # Ok(())
@@ -1061,12 +1202,14 @@ impl Guard {
         .map(as_length)
     }
 
-    /// Writes the first pairs with `start <= key <= last` to the buffer, as [`read_range`](Guard::read_range).
+    /// Writes the first pairs with `start <= key <= last` to the buffer, keys ascending, and returns how many pairs fit.
+    /// All pairs of the page are of one moment. The rest of the buffer is unchanged. While other calls have the lock, the
+    /// call yields and tries again.
     ///
     /// ```
     /// # fn main() -> Result<(), Box<dyn std::error::Error>> {
     /// let guard = proved_congee::SharedMap::new()?.pin()?;
-    /// guard.try_extend([(5, 50), (7, 70), (9, 90)])?;
+    /// guard.extend([(5, 50), (7, 70), (9, 90)])?;
     /// let mut page = [proved_congee::Pair::default(); 2];
     /// assert_eq!(guard.read_range_inclusive(0, u64::MAX, &mut page), 2);
     /// assert_eq!(page.map(|pair| pair.key), [5, 7]);
@@ -1077,12 +1220,14 @@ impl Guard {
         waiting(|| self.try_read_range_inclusive(start, last, buffer))
     }
 
-    /// The same, which doesn't wait.
+    /// Writes the first pairs with `start <= key <= last` to the buffer, keys ascending, and returns how many pairs fit.
+    /// All pairs of the page are of one moment. The rest of the buffer is unchanged. Doesn't wait: returns [`Busy`], with
+    /// nothing changed, if a lock of the call was taken at each of a bounded number of tries.
     ///
     /// ```
     /// # fn main() -> Result<(), Box<dyn std::error::Error>> {
     /// let guard = proved_congee::SharedMap::new()?.pin()?;
-    /// guard.try_extend([(5, 50), (7, 70), (9, 90)])?;
+    /// guard.extend([(5, 50), (7, 70), (9, 90)])?;
     /// let mut page = [proved_congee::Pair::default(); 2];
     /// assert_eq!(guard.try_read_range_inclusive(0, u64::MAX, &mut page)?, 2);
     /// # Ok(())
@@ -1101,12 +1246,14 @@ impl Guard {
         .map(as_length)
     }
 
-    /// The same with keys descending: the last pairs of those.
+    /// Writes the last pairs with `start <= key <= last` to the buffer, keys descending, and returns how many pairs fit.
+    /// All pairs of the page are of one moment. The rest of the buffer is unchanged. While other calls have the lock, the
+    /// call yields and tries again.
     ///
     /// ```
     /// # fn main() -> Result<(), Box<dyn std::error::Error>> {
     /// let guard = proved_congee::SharedMap::new()?.pin()?;
-    /// guard.try_extend([(5, 50), (7, 70), (9, 90)])?;
+    /// guard.extend([(5, 50), (7, 70), (9, 90)])?;
     /// let mut page = [proved_congee::Pair::default(); 2];
     /// assert_eq!(guard.read_range_descending(0, u64::MAX, &mut page), 2);
     /// assert_eq!(page.map(|pair| pair.key), [9, 7]);
@@ -1117,12 +1264,14 @@ impl Guard {
         waiting(|| self.try_read_range_descending(start, last, buffer))
     }
 
-    /// The same, which doesn't wait.
+    /// Writes the last pairs with `start <= key <= last` to the buffer, keys descending, and returns how many pairs fit.
+    /// All pairs of the page are of one moment. The rest of the buffer is unchanged. Doesn't wait: returns [`Busy`], with
+    /// nothing changed, if a lock of the call was taken at each of a bounded number of tries.
     ///
     /// ```
     /// # fn main() -> Result<(), Box<dyn std::error::Error>> {
     /// let guard = proved_congee::SharedMap::new()?.pin()?;
-    /// guard.try_extend([(5, 50), (7, 70), (9, 90)])?;
+    /// guard.extend([(5, 50), (7, 70), (9, 90)])?;
     /// let mut page = [proved_congee::Pair::default(); 2];
     /// assert_eq!(guard.try_read_range_descending(0, u64::MAX, &mut page)?, 2);
     /// # Ok(())
@@ -1141,43 +1290,48 @@ impl Guard {
         .map(as_length)
     }
 
-    /// The pairs whose keys are within the bounds, keys ascending, from either end. They are read by pages of 4, then 16,
-    /// and then 64. Those of a page are of one moment, and other calls come in between two pages. A key that stays
-    /// throughout is among them.
+    /// Returns the pairs whose keys are within the bounds, keys ascending, from either end. The pairs are read in pages of
+    /// 4, then 16, and then 64. The pairs of a page are of one moment, and other calls come in between two pages. A key
+    /// that is present throughout is returned.
     ///
     /// ```
     /// # fn main() -> Result<(), Box<dyn std::error::Error>> {
     /// let guard = proved_congee::SharedMap::new()?.pin()?;
-    /// guard.try_extend([(5, 50), (7, 70), (9, 90)])?;
+    /// guard.extend([(5, 50), (7, 70), (9, 90)])?;
     /// assert!(guard.range(6..).eq([(7, 70), (9, 90)]));
     /// assert_eq!(guard.range(..=8).next_back(), Some((7, 70)));
     /// # Ok(())
     /// # }
     /// ```
+    #[doc(alias("cursor", "range_mut", "scan"))]
     pub fn range(&self, bounds: impl RangeBounds<u64>) -> Range<'_> {
-        Range::of(Source::Shared(self), bounds)
+        loops::range(self, bounds)
     }
 
-    /// All pairs, keys ascending, as [`range`](Guard::range).
+    /// Returns all pairs, keys ascending, from either end. The pairs are read in pages of 4, then 16, and then 64. The
+    /// pairs of a page are of one moment, and other calls come in between two pages. A key that is present throughout is
+    /// returned.
     ///
     /// ```
     /// # fn main() -> Result<(), Box<dyn std::error::Error>> {
     /// let guard = proved_congee::SharedMap::new()?.pin()?;
-    /// guard.try_extend([(5, 50), (7, 70), (9, 90)])?;
+    /// guard.extend([(5, 50), (7, 70), (9, 90)])?;
     /// assert!(guard.iter().eq([(5, 50), (7, 70), (9, 90)]));
     /// # Ok(())
     /// # }
     /// ```
+    #[doc(alias("for_each", "iter_mut"))]
     pub fn iter(&self) -> Range<'_> {
         self.range(..)
     }
 
-    /// The keys, ascending, as [`range`](Guard::range).
+    /// Returns all keys, ascending, from either end. The pairs are read in pages of 4, then 16, and then 64. The pairs of a
+    /// page are of one moment, and other calls come in between two pages. A key that is present throughout is returned.
     ///
     /// ```
     /// # fn main() -> Result<(), Box<dyn std::error::Error>> {
     /// let guard = proved_congee::SharedMap::new()?.pin()?;
-    /// guard.try_extend([(5, 50), (7, 70), (9, 90)])?;
+    /// guard.extend([(5, 50), (7, 70), (9, 90)])?;
     /// assert!(guard.keys().eq([5, 7, 9]));
     /// # Ok(())
     /// # }
@@ -1186,67 +1340,63 @@ impl Guard {
         Keys { of: self.iter() }
     }
 
-    /// The values, keys ascending, as [`range`](Guard::range).
+    /// Returns all values, by ascending keys, from either end. The pairs are read in pages of 4, then 16, and then 64. The
+    /// pairs of a page are of one moment, and other calls come in between two pages. A key that is present throughout is
+    /// returned.
     ///
     /// ```
     /// # fn main() -> Result<(), Box<dyn std::error::Error>> {
     /// let guard = proved_congee::SharedMap::new()?.pin()?;
-    /// guard.try_extend([(5, 50), (7, 70), (9, 90)])?;
+    /// guard.extend([(5, 50), (7, 70), (9, 90)])?;
     /// assert!(guard.values().eq([50, 70, 90]));
     /// # Ok(())
     /// # }
     /// ```
+    #[doc(alias = "values_mut")]
     pub fn values(&self) -> Values<'_> {
         Values { of: self.iter() }
     }
 
-    /// Removes the pairs whose keys are within the bounds, one by one, and returns how many this call removed. Other calls
-    /// come in between.
+    /// Removes the pairs whose keys are within the bounds, one by one, and returns how many pairs this call removed. Other
+    /// calls come in between. While other calls have the lock, the call yields and tries again. Never out of memory.
     ///
     /// ```
     /// # fn main() -> Result<(), Box<dyn std::error::Error>> {
     /// let guard = proved_congee::SharedMap::new()?.pin()?;
-    /// guard.try_extend([(5, 50), (7, 70), (9, 90)])?;
+    /// guard.extend([(5, 50), (7, 70), (9, 90)])?;
     /// assert_eq!((guard.remove_range(6..), guard.len()), (2, 1));
     /// # Ok(())
     /// # }
     /// ```
+    #[doc(alias = "drain")]
     pub fn remove_range(&self, bounds: impl RangeBounds<u64>) -> u64 {
-        let mut removed = 0;
-        if let Some((start, last)) = ends(bounds) {
-            for (key, _) in self.range(start..=last) {
-                removed += u64::from(self.remove(key).is_some());
-            }
-        }
-        removed
+        loops::remove_range(self, bounds)
     }
 
-    /// Calls `keep` with each pair, keys ascending, outside of the lock, and removes those for which it returns false. One
-    /// whose value another call changes meanwhile stays. Other calls come in between.
+    /// Calls `keep` with each pair, keys ascending, outside of the lock. Removes the pairs for which `keep` returns false,
+    /// unless another call has changed the value meanwhile. Other calls come in between. While other calls have the lock,
+    /// the call yields and tries again. Never out of memory.
     ///
     /// ```
     /// # fn main() -> Result<(), Box<dyn std::error::Error>> {
     /// let guard = proved_congee::SharedMap::new()?.pin()?;
-    /// guard.try_extend([(5, 50), (7, 70), (9, 90)])?;
+    /// guard.extend([(5, 50), (7, 70), (9, 90)])?;
     /// guard.retain(|key, value| key > 5 && value < 90);
     /// assert!(guard.keys().eq([7]));
     /// # Ok(())
     /// # }
     /// ```
-    pub fn retain(&self, mut keep: impl FnMut(u64, u64) -> bool) {
-        for (key, value) in self {
-            if !keep(key, value) {
-                let _ = self.compare_remove(key, value);
-            }
-        }
+    pub fn retain(&self, keep: impl FnMut(u64, u64) -> bool) {
+        loops::retain(self, keep);
     }
 
-    /// Removes all pairs, at one moment. Other calls wait meanwhile.
+    /// Removes all pairs, at one moment. Other calls wait meanwhile. Never out of memory. While other calls have the lock,
+    /// the call yields and tries again.
     ///
     /// ```
     /// # fn main() -> Result<(), Box<dyn std::error::Error>> {
     /// let guard = proved_congee::SharedMap::new()?.pin()?;
-    /// guard.try_extend([(5, 50), (7, 70), (9, 90)])?;
+    /// guard.extend([(5, 50), (7, 70), (9, 90)])?;
     /// guard.clear();
     /// assert!(guard.is_empty());
     /// # Ok(())
@@ -1256,12 +1406,13 @@ impl Guard {
         waiting(|| self.try_clear());
     }
 
-    /// The same, which doesn't wait.
+    /// Removes all pairs, at one moment. Other calls wait meanwhile. Never out of memory. Doesn't wait: returns [`Busy`],
+    /// with nothing changed, if a lock of the call was taken at each of a bounded number of tries.
     ///
     /// ```
     /// # fn main() -> Result<(), Box<dyn std::error::Error>> {
     /// let guard = proved_congee::SharedMap::new()?.pin()?;
-    /// guard.try_extend([(5, 50), (7, 70), (9, 90)])?;
+    /// guard.extend([(5, 50), (7, 70), (9, 90)])?;
     /// guard.try_clear()?;
     /// assert!(guard.is_empty());
     /// # Ok(())
@@ -1272,12 +1423,13 @@ impl Guard {
         unless_busy(code, |_| ())
     }
 
-    /// Whether there is no pair, in constant time.
+    /// Returns whether the map has no pair, in constant time for each shard. While other calls have the lock, the call
+    /// yields and tries again.
     ///
     /// ```
     /// # fn main() -> Result<(), Box<dyn std::error::Error>> {
     /// let guard = proved_congee::SharedMap::new()?.pin()?;
-    /// guard.try_extend([(5, 50), (7, 70), (9, 90)])?;
+    /// guard.extend([(5, 50), (7, 70), (9, 90)])?;
     /// assert!(!guard.is_empty());
     /// # Ok(())
     /// # }
@@ -1286,12 +1438,13 @@ impl Guard {
         waiting(|| self.try_is_empty())
     }
 
-    /// The same, which doesn't wait.
+    /// Returns whether the map has no pair, in constant time for each shard. Doesn't wait: returns [`Busy`], with nothing
+    /// changed, if a lock of the call was taken at each of a bounded number of tries.
     ///
     /// ```
     /// # fn main() -> Result<(), Box<dyn std::error::Error>> {
     /// let guard = proved_congee::SharedMap::new()?.pin()?;
-    /// guard.try_extend([(5, 50), (7, 70), (9, 90)])?;
+    /// guard.extend([(5, 50), (7, 70), (9, 90)])?;
     /// assert!(!guard.try_is_empty()?);
     /// # Ok(())
     /// # }
@@ -1301,26 +1454,29 @@ impl Guard {
             .map(|is_empty| is_empty != 0)
     }
 
-    /// How many pairs there are, in constant time.
+    /// Returns the exact number of pairs, in constant time for each shard. While other calls have the lock, the call yields
+    /// and tries again.
     ///
     /// ```
     /// # fn main() -> Result<(), Box<dyn std::error::Error>> {
     /// let guard = proved_congee::SharedMap::new()?.pin()?;
-    /// guard.try_extend([(5, 50), (7, 70), (9, 90)])?;
+    /// guard.extend([(5, 50), (7, 70), (9, 90)])?;
     /// assert_eq!(guard.len(), 3);
     /// # Ok(())
     /// # }
     /// ```
+    #[doc(alias("count", "size", "value_count"))]
     pub fn len(&self) -> usize {
         waiting(|| self.try_len())
     }
 
-    /// The same, which doesn't wait.
+    /// Returns the exact number of pairs, in constant time for each shard. Doesn't wait: returns [`Busy`], with nothing
+    /// changed, if a lock of the call was taken at each of a bounded number of tries.
     ///
     /// ```
     /// # fn main() -> Result<(), Box<dyn std::error::Error>> {
     /// let guard = proved_congee::SharedMap::new()?.pin()?;
-    /// guard.try_extend([(5, 50), (7, 70), (9, 90)])?;
+    /// guard.extend([(5, 50), (7, 70), (9, 90)])?;
     /// assert_eq!(guard.try_len()?, 3);
     /// # Ok(())
     /// # }
@@ -1330,32 +1486,65 @@ impl Guard {
             .map(as_length)
     }
 
-    /// What the nodes are charged, as [`Map::charged`](crate::Map::charged), in constant time.
+    /// Returns the sum in bytes of the stated sizes of the map's nodes, which counts against the limit. While other calls
+    /// have the lock, the call yields and tries again.
     ///
     /// ```
     /// # fn main() -> Result<(), Box<dyn std::error::Error>> {
     /// let guard = proved_congee::SharedMap::new()?.pin()?;
-    /// guard.try_extend([(5, 50), (7, 70), (9, 90)])?;
+    /// guard.extend([(5, 50), (7, 70), (9, 90)])?;
     /// assert_eq!(guard.charged(), 2104 + 64);
     /// # Ok(())
     /// # }
     /// ```
+    #[doc(alias("bytes", "memory_usage", "stats"))]
     pub fn charged(&self) -> u64 {
         waiting(|| self.try_charged())
     }
 
-    /// The same, which doesn't wait.
+    /// Returns the sum in bytes of the stated sizes of the map's nodes, which counts against the limit. Doesn't wait:
+    /// returns [`Busy`], with nothing changed, if a lock of the call was taken at each of a bounded number of tries.
     ///
     /// ```
     /// # fn main() -> Result<(), Box<dyn std::error::Error>> {
     /// let guard = proved_congee::SharedMap::new()?.pin()?;
-    /// guard.try_extend([(5, 50), (7, 70), (9, 90)])?;
+    /// guard.extend([(5, 50), (7, 70), (9, 90)])?;
     /// assert_eq!(guard.try_charged()?, 2104 + 64);
     /// # Ok(())
     /// # }
     /// ```
     pub fn try_charged(&self) -> Result<u64, Busy> {
-        self.number(|handle, number| unsafe { congee_c_shared_charged(handle, number) })
+        self.try_usage().map(|usage| usage.0)
+    }
+
+    /// What the nodes are charged, and the limit. The first is at most the second. In shards the limit is the sum of the
+    /// shards' limits. Waits while the map is busy.
+    ///
+    /// ```
+    /// # fn main() -> Result<(), Box<dyn std::error::Error>> {
+    /// let guard = proved_congee::SharedMap::with_limit(5000)?.pin()?;
+    /// assert_eq!(guard.usage(), (2104, 5000));
+    /// # Ok(())
+    /// # }
+    /// ```
+    pub fn usage(&self) -> (u64, u64) {
+        waiting(|| self.try_usage())
+    }
+
+    /// What the nodes are charged, and the limit. The first is at most the second. In shards the limit is the sum of the
+    /// shards' limits. Doesn't wait.
+    ///
+    /// ```
+    /// # fn main() -> Result<(), Box<dyn std::error::Error>> {
+    /// let guard = proved_congee::SharedMap::with_limit(5000)?.pin()?;
+    /// assert_eq!(guard.try_usage()?, (2104, 5000));
+    /// # Ok(())
+    /// # }
+    /// ```
+    pub fn try_usage(&self) -> Result<(u64, u64), Busy> {
+        let (mut charged, mut limit) = (0, 0);
+        let code = unsafe { congee_c_shared_usage(&mut self.handle(), &mut charged, &mut limit) };
+        unless_busy(code, |_| (charged, limit))
     }
 }
 

@@ -1,6 +1,6 @@
 /* Each call of a map that is read without a lock, by one thread. First by tables of calls and answers, by the forms that wait and
- * by those that give up. Then mixed calls, by two handles in turn, beside the same calls on a map with one owner. Each returns
- * the same, and writes the same. No call is busy. */
+ * by those that give up. A function that is called may change its key by another handle. Then mixed calls, by two handles in turn,
+ * beside the same calls on a map with one owner. Each returns the same, and writes the same. No call is busy. */
 #include "congee.h"
 #include <inttypes.h>
 #include <stdio.h>
@@ -226,6 +226,35 @@ static void call_before(struct congee_live *map, uint64_t key, size_t floor, siz
     need(is_there(c, below) && is_there(d, below), "the pair of below");
 }
 
+/* A range of the keys above, downwards: how many pairs there is room for, and which keys are written, by the place behind the
+ * greatest of them and their number. */
+static const struct down {
+    uint64_t start, last;
+    size_t room, behind, count;
+} downs[] = {
+    {0, UINT64_MAX, 8, 7, 7},     {0, UINT64_MAX, 7, 7, 7},          {0, UINT64_MAX, 3, 7, 3},    {5, 7, 8, 2, 2},
+    {6, 0x1ff, 8, 4, 3},          {6, 0x1fe, 8, 3, 2},               {8, 0x104, 8, 0, 0},         {0x200, 1ull << 40, 1, 6, 1},
+    {0, (1ull << 40) - 1, 8, 5, 5}, {7, 5, 8, 0, 0},                 {UINT64_MAX, 0, 8, 0, 0},    {7, 7, 8, 2, 1},
+    {UINT64_MAX, UINT64_MAX, 8, 7, 1}, {0, 0, 8, 0, 0},              {0, 4, 8, 0, 0},             {0, 5, 8, 1, 1},
+    {1, UINT64_MAX, 0, 0, 0},
+};
+
+static void call_down(struct congee_live *map, const struct down *down, bool waits) {
+    struct congee_pair page[8];
+    size_t n = 99;
+    memset(page, 0xee, sizeof page);
+    if (waits)
+        n = congee_live_range_descending(map, down->start, down->last, page, down->room);
+    else
+        need(congee_live_try_range_descending(map, down->start, down->last, page, down->room, &n) == CONGEE_DONE,
+             "a range downwards isn't busy");
+    need(n == down->count, "how many pairs a range downwards has");
+    for (size_t i = 0; i < n; i++)
+        need(is_there(page[i], down->behind - 1 - i), "a pair of a range downwards");
+    for (size_t i = down->room; i < 8; i++)
+        need(page[i].key == 0xeeeeeeeeeeeeeeee && page[i].value == page[i].key, "what lies behind the buffer");
+}
+
 static void call_ends(struct congee_live *map, bool is_some) {
     struct congee_pair a = {1, 2}, b = {1, 2}, c = {1, 2}, d = {1, 2};
     need(congee_live_first(map, &a) == is_some && congee_live_try_first(map, &b) == is_some, "first");
@@ -258,6 +287,10 @@ static void call_ranges(void) {
         call_range(map, &ranges[i], true);
         call_range(map, &ranges[i], false);
     }
+    for (size_t i = 0; i < sizeof downs / sizeof *downs; i++) {
+        call_down(map, &downs[i], true);
+        call_down(map, &downs[i], false);
+    }
     for (size_t i = 0; i < sizeof nears / sizeof *nears; i++)
         call_near(map, nears[i].key, nears[i].ceiling, nears[i].above);
     for (size_t i = 0; i < sizeof nears / sizeof *nears; i++)
@@ -275,6 +308,184 @@ static void call_ranges(void) {
     congee_live_free(map);
 }
 
+/* Inserts the keys above, all at once. */
+static void insert_all(struct congee_live *map) {
+    struct congee_pair pairs[THERE];
+    for (size_t i = 0; i < THERE; i++)
+        pairs[i] = (struct congee_pair){there[i], 10 * there[i]};
+    need(congee_live_insert_many(map, pairs, THERE) == THERE, "many pairs");
+    need(congee_live_insert_many(map, pairs, 0) == 0, "no pairs");
+}
+
+/* Pops from both ends in turn, by both forms, with a place or with none, until no pair is left. */
+static void call_pops(struct congee_live *map) {
+    size_t first = 0, last = THERE;
+    insert_all(map);
+    for (int i = 0; first < last; i++) {
+        struct congee_pair pair = {1, 2}, *at = i == 3 ? NULL : &pair;
+        bool up = i % 2 == 0;
+        int code = i % 4 == 0   ? congee_live_pop_first(map, at)
+                   : i % 4 == 1 ? congee_live_pop_last(map, at)
+                   : i % 4 == 2 ? congee_live_try_pop_first(map, at)
+                                : congee_live_try_pop_last(map, at);
+        need(code == CONGEE_PRESENT, "a pop");
+        size_t popped = up ? first++ : --last;
+        need(is_there(pair, i == 3 ? THERE : popped), "the pair of a pop");
+        need(congee_live_get(map, there[popped], NULL) == CONGEE_ABSENT, "a popped key is gone");
+        call_counts(map, last - first);
+    }
+    struct congee_pair a = {1, 2}, b = {1, 2}, c = {1, 2}, d = {1, 2};
+    need(congee_live_pop_first(map, &a) == CONGEE_ABSENT && congee_live_try_pop_first(map, &b) == CONGEE_ABSENT, "no first pair");
+    need(congee_live_pop_last(map, &c) == CONGEE_ABSENT && congee_live_try_pop_last(map, &d) == CONGEE_ABSENT, "no last pair");
+    need(is_there(a, THERE) && is_there(b, THERE) && is_there(c, THERE) && is_there(d, THERE), "the places of no pairs");
+}
+
+/* What a visitor was called with, and at which call it ends the loop, and by what. */
+struct visit {
+    size_t first, calls, ends;
+};
+
+static int visitor(struct congee_pair pair, void *with) {
+    struct visit *visit = with;
+    need(is_there(pair, visit->first + visit->calls), "the pair of a call");
+    return ++visit->calls == visit->ends ? 7 : 0;
+}
+
+/* Loops over a range of the keys above: the first that it is called with, and how often. Then the removal of the range. */
+static const struct loop {
+    uint64_t start, last;
+    size_t first, calls;
+} loops[] = {
+    {0, UINT64_MAX, 0, 7}, {6, 0x1ff, 1, 3},        {7, 7, 1, 1},          {8, 0x104, 0, 0},
+    {7, 5, 0, 0},          {UINT64_MAX, UINT64_MAX, 6, 1}, {0, 4, 0, 0}, {0, UINT64_MAX - 1, 0, 6},
+};
+
+static void call_loops(struct congee_live *map) {
+    for (size_t i = 0; i < sizeof loops / sizeof *loops; i++) {
+        const struct loop *loop = &loops[i];
+        struct visit all = {loop->first, 0, 99}, two = {loop->first, 0, 2};
+        insert_all(map);
+        need(congee_live_each(map, loop->start, loop->last, visitor, &all) == 0 && all.calls == loop->calls, "each");
+        need(congee_live_each(map, loop->start, loop->last, visitor, &two) == (loop->calls > 1 ? 7 : 0), "each that ends");
+        need(two.calls == (loop->calls < 2 ? loop->calls : 2), "how often each calls that ends");
+        need(congee_live_remove_range_inclusive(map, loop->start, loop->last) == loop->calls, "how many pairs are removed");
+        for (size_t key = 0; key < THERE; key++)
+            need(congee_live_get(map, there[key], NULL) == (key < loop->first || key >= loop->first + loop->calls),
+                 "which are removed");
+    }
+    congee_live_clear(map);
+    call_counts(map, 0);
+    /* more than a page, with the last key full pages end with */
+    for (uint64_t i = 0; i < 200; i++)
+        need(congee_live_insert(map, i < 199 ? i : UINT64_MAX, i, NULL) == CONGEE_ABSENT, "a key of some pages");
+    need(congee_live_remove_range_inclusive(map, 10, 137) == 128, "two full pages");
+    call_counts(map, 72);
+    congee_live_clear(map);
+    call_counts(map, 0);
+}
+
+/* What a function is called with by congee_live_compute, and what it answers. */
+struct change {
+    int found, wanted;
+    uint64_t value, desired;
+    int calls;
+};
+
+static int changes(int found, uint64_t *value, void *with) {
+    struct change *change = with;
+    need(found == change->found && *value == change->value, "what a function is called with");
+    change->calls++;
+    *value = change->desired;
+    return change->wanted;
+}
+
+/* Changes of one key in turn, each with what it returns, and with the old value or NOTHING. */
+static const struct {
+    struct change change;
+    int code;
+    uint64_t old;
+} computes[] = {
+    {{CONGEE_ABSENT, CONGEE_ABSENT, 0, 5, 0}, CONGEE_ABSENT, NOTHING},
+    {{CONGEE_ABSENT, CONGEE_PRESENT, 0, 70, 0}, CONGEE_ABSENT, NOTHING},
+    {{CONGEE_PRESENT, CONGEE_PRESENT, 70, 71, 0}, CONGEE_PRESENT, 70},
+    {{CONGEE_PRESENT, CONGEE_PRESENT, 71, 71, 0}, CONGEE_PRESENT, 71},
+    {{CONGEE_PRESENT, CONGEE_PRESENT, 71, 0, 0}, CONGEE_PRESENT, 71},
+    {{CONGEE_PRESENT, CONGEE_ABSENT, 0, 9, 0}, CONGEE_PRESENT, 0},
+    {{CONGEE_ABSENT, CONGEE_PRESENT, 0, 0, 0}, CONGEE_ABSENT, NOTHING},
+    {{CONGEE_PRESENT, CONGEE_ABSENT, 0, 0, 0}, CONGEE_PRESENT, 0},
+};
+
+static void call_computes(struct congee_live *map, bool waits, bool has_place) {
+    for (size_t i = 0; i < sizeof computes / sizeof *computes; i++) {
+        struct change change = computes[i].change;
+        uint64_t old = NOTHING, value = NOTHING, *place = has_place ? &old : NULL;
+        int code = (waits ? congee_live_compute : congee_live_try_compute)(map, 7, changes, &change, place);
+        need(code == computes[i].code && change.calls == 1, "a change by a function");
+        need(old == (has_place ? computes[i].old : NOTHING), "the old value of a change by a function");
+        need(congee_live_get(map, 7, &value) == change.wanted, "whether the key is there after a change");
+        need(value == (change.wanted == CONGEE_PRESENT ? change.desired : NOTHING), "the value after a change");
+    }
+}
+
+/* A function that changes the key by another handle while it is called: it is called again with the new value, or the call is
+ * busy. */
+struct meddler {
+    struct congee_live *other;
+    int calls;
+};
+
+static int meddles(int found, uint64_t *value, void *with) {
+    struct meddler *meddler = with;
+    switch (meddler->calls++) {
+    case 0:
+        need(found == CONGEE_ABSENT && *value == 0, "an absent key");
+        need(congee_live_insert(meddler->other, 7, 70, NULL) == CONGEE_ABSENT, "another handle inserts it");
+        break;
+    case 1:
+        need(found == CONGEE_PRESENT && *value == 70, "what another handle inserted");
+        need(congee_live_insert(meddler->other, 7, 71, NULL) == CONGEE_PRESENT, "another handle changes it");
+        break;
+    case 2:
+        need(found == CONGEE_PRESENT && *value == 71, "what another handle changed");
+        need(congee_live_remove(meddler->other, 7, NULL) == CONGEE_PRESENT, "another handle removes it");
+        break;
+    default:
+        need(found == CONGEE_ABSENT && *value == 0, "what another handle removed");
+    }
+    *value = 5;
+    return meddler->calls == 3 ? CONGEE_ABSENT : CONGEE_PRESENT;
+}
+
+static void call_meddled(struct congee_live *map) {
+    struct meddler meddler = {NULL, 0};
+    uint64_t value = NOTHING, old = NOTHING;
+    need(congee_live_another(map, &meddler.other) == CONGEE_DONE, "another handle");
+    need(congee_live_compute(map, 7, meddles, &meddler, &old) == CONGEE_ABSENT && meddler.calls == 4, "a call that goes on");
+    need(old == NOTHING && congee_live_get(map, 7, &value) == CONGEE_PRESENT && value == 5, "what it leaves");
+    need(congee_live_remove(map, 7, NULL) == CONGEE_PRESENT, "a removal");
+    meddler.calls = 0;
+    for (int calls = 1; calls <= 3; calls++)
+        need(congee_live_try_compute(map, 7, meddles, &meddler, &old) == CONGEE_BUSY && meddler.calls == calls,
+             "a call that gives up");
+    need(old == NOTHING && congee_live_get(map, 7, NULL) == CONGEE_ABSENT, "it changes nothing");
+    need(congee_live_try_compute(map, 7, meddles, &meddler, &old) == CONGEE_ABSENT && meddler.calls == 4, "a call that is made");
+    need(congee_live_remove(map, 7, &value) == CONGEE_PRESENT && value == 5, "what that leaves");
+    congee_live_free(meddler.other);
+}
+
+/* Calls that make several calls of the library. */
+static void call_several(void) {
+    struct congee_live *map;
+    need(congee_live_new(&map) == CONGEE_DONE, "a map");
+    call_pops(map);
+    call_loops(map);
+    for (int i = 0; i < 4; i++)
+        call_computes(map, i / 2, i % 2);
+    call_meddled(map);
+    need(congee_live_insert(map, 7, 70, NULL) == CONGEE_ABSENT, "a key that is left at the end");
+    congee_live_free(map);
+}
+
 /* The least and the greatest key, dense keys, and some that lie far apart. */
 static uint64_t key_of(uint64_t i) {
     return i == 0 ? 0 : i == 1 ? UINT64_MAX : i % 4 ? i : i * 0x0010010010010010u;
@@ -284,11 +495,28 @@ static bool is_same(struct congee_pair a, struct congee_pair b) {
     return a.key == b.key && a.value == b.value;
 }
 
-/* A range, a next pair, or one before. */
+/* Pops, and now and then a removal of many pairs. */
+static void remove_pairs(struct congee *map, struct congee_live *live, uint64_t key, uint64_t last, uint64_t *seed) {
+    struct congee_pair a = {1, 2}, b = {1, 2};
+    uint64_t kind = next(seed) % 512;
+    if (kind == 0) {
+        congee_clear(map);
+        congee_live_clear(live);
+    } else if (kind < 8) {
+        need(congee_remove_range_inclusive(map, key, last) == congee_live_remove_range_inclusive(live, key, last),
+             "a removal of many");
+    } else if (kind % 2) {
+        need(congee_pop_first(map, &a) == congee_live_pop_first(live, &b) && is_same(a, b), "pop_first");
+    } else {
+        need(congee_pop_last(map, &a) == congee_live_pop_last(live, &b) && is_same(a, b), "pop_last");
+    }
+}
+
+/* A range, a next pair, one before, or a pop. */
 static void compare_pairs(struct congee *map, struct congee_live *live, uint64_t key, uint64_t *seed) {
     static struct congee_pair one[ROOM], other[ROOM];
     struct congee_pair a = {1, 2}, b = {1, 2};
-    uint64_t last = key_of(next(seed) % KEYS), kind = next(seed) % 8;
+    uint64_t last = key_of(next(seed) % KEYS), kind = next(seed) % 10;
     size_t n = next(seed) % (ROOM + 1), count, its;
     switch (kind) {
     case 0:
@@ -308,6 +536,14 @@ static void compare_pairs(struct congee *map, struct congee_live *live, uint64_t
         break;
     case 5:
         need(congee_below(map, key, &a) == congee_live_below(live, key, &b) && is_same(a, b), "below");
+        break;
+    case 8:
+        count = congee_range_descending(map, key, last, one, n);
+        its = congee_live_range_descending(live, key, last, other, n);
+        need(count == its && memcmp(one, other, count * sizeof *one) == 0, "a range downwards");
+        break;
+    case 9:
+        remove_pairs(map, live, key, last, seed);
         break;
     default:
         count = kind == 6 ? congee_range(map, key, last, one, n) : congee_range_inclusive(map, key, last, one, n);
@@ -349,6 +585,7 @@ int main(void) {
     call_rows(waits, false);
     call_rows(tries, false);
     call_ranges();
+    call_several();
     call_mixed();
     printf("%zu rows four times, %d calls beside a map with one owner\n", sizeof rows / sizeof *rows, CALLS);
     return 0;

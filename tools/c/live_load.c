@@ -17,7 +17,7 @@
 #include <stdlib.h>
 #include <string.h>
 
-enum { MOST = 16, KEYS = 64, KINDS = 3, PAGE = 8 };
+enum { MOST = 32, KEYS = 64, KINDS = 3, PAGE = 8 };
 
 static uint64_t calls = 100000, threads = 4;
 

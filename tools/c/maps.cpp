@@ -4,6 +4,7 @@
 //     c++ -std=c++17 -Iinclude tools/c/maps.cpp out/c-library/libcongee.a -pthread -o maps && ./maps
 #include "congee.hpp"
 #include <algorithm>
+#include <atomic>
 #include <cstdio>
 #include <cstdlib>
 #include <map>
@@ -208,10 +209,52 @@ template <class M> static void in_threads(M counts) {
     CHECK(!counts.compare_erase(0, expected) && expected == 2 && counts.compare_erase(0, expected));
     CHECK((counts.try_emplace(0, 5) == std::pair<std::uint64_t, bool>(5, true)) && !counts.try_emplace(0, 6).second);
     CHECK(!counts.insert_or_assign(0, 6) && counts.take(0) == 6u && !counts.erase(0));
+    CHECK(counts.compute(0, [](std::optional<std::uint64_t> it) { return it; }) == std::nullopt && !counts.contains(0));
+    CHECK(!counts.compute(0, [](auto it) { return std::optional<std::uint64_t>(it.value_or(7) + 1); }) && counts.get(0) == 8u);
+    CHECK(counts.compute(0, [](auto it) { return std::optional<std::uint64_t>(*it * 2); }) == 8u && counts.get(0) == 16u);
+    CHECK(counts.compute(0, [](auto) { return std::optional<std::uint64_t>(); }) == 16u && !counts.contains(0));
+    std::vector<std::uint64_t> keys, down;
+    for (std::uint64_t key = 0; key < 300; key++)
+        counts.insert_or_assign(key, key);
+    counts.each(1, 200, [&](std::uint64_t key, std::uint64_t) { keys.push_back(key); });
+    counts.each_descending(1, 200, [&](std::uint64_t key, std::uint64_t) { down.push_back(key); });
+    CHECK(keys.size() == 200 && std::equal(keys.begin(), keys.end(), down.rbegin(), down.rend()));
+    down.clear();
+    counts.each_descending([&](std::uint64_t key, std::uint64_t) { down.push_back(key); });
+    CHECK(down.size() == 309 && down.front() == std::uint64_t{9} << 40 && down.back() == 0);
+    counts.each_descending(7, 6, [](std::uint64_t, std::uint64_t) { CHECK(false); });
+    CHECK(counts.erase_range(10, 309) == 290 && counts.erase_range(10, 309) == 0 && counts.erase_range(9, 8) == 0);
+    CHECK(counts.pop_first() == congee_cpp::pair(0, 0) && counts.pop_last()->first == std::uint64_t{9} << 40);
+    CHECK(counts.size() == 17);
     M other = counts, moved = std::move(counts);
     counts = other;
     moved.insert_or_assign(3, 30);
     CHECK(counts.get(3) == 30u && other.get(3) == 30u);
+    other.clear();
+    CHECK(counts.empty() && !counts.pop_first() && !counts.pop_last());
+}
+
+// Threads pop what others insert, and change values by a function: each pair goes to one thread, and no step is lost.
+template <class M> static void pops_in_threads(M jobs, M counts) {
+    std::vector<std::thread> threads;
+    std::atomic<std::uint64_t> popped{0}, sum{0};
+    for (std::uint64_t t = 0; t < 4; t++)
+        threads.emplace_back([t, &popped, &sum, own = jobs, steps = counts]() mutable {
+            for (std::uint64_t i = 0; i < 5000; i++) {
+                own.insert_or_assign(t << 40 | i, i);
+                steps.compute(7, [](auto it) { return std::optional<std::uint64_t>(it.value_or(0) + 1); });
+                // (a live map may pass a pair that comes meanwhile)
+                std::optional<congee_cpp::pair> job;
+                while (!job)
+                    job = i % 2 ? own.pop_first() : own.pop_last();
+                popped++;
+                sum += job->second;
+            }
+        });
+    for (std::thread &it : threads)
+        it.join();
+    CHECK(popped == 20000 && sum == 4 * (4999 * 5000 / 2));
+    CHECK(jobs.empty() && counts.get(7) == 20000u);
 }
 
 int main() {
@@ -226,6 +269,9 @@ int main() {
     in_threads(live_map(8 << 20));
     in_threads(shared_map());
     in_threads(shared_map::sharded());
+    pops_in_threads(live_map(), live_map());
+    pops_in_threads(shared_map(), shared_map());
+    pops_in_threads(shared_map::sharded(), shared_map::sharded());
     shared_map pops;
     pops.insert_or_assign(1, 10);
     pops.insert_or_assign(2, 20);

@@ -155,7 +155,7 @@ static void call_range(struct congee *map, struct congee_shared *shared, uint64_
 }
 
 static void compare_counts(struct congee *map, struct congee_shared *shared) {
-    uint64_t count = 99, charged = 99;
+    uint64_t count = 99, charged = 99, bytes = 99, limit = 99;
     need(congee_count(map) == congee_shared_count(shared), "count");
     if (sharded)
         need(congee_count(map) ? congee_shared_charged(shared) >= 64 * FIRST : congee_shared_charged(shared) == 64 * FIRST,
@@ -166,6 +166,10 @@ static void compare_counts(struct congee *map, struct congee_shared *shared) {
     need(congee_shared_try_count(shared, &count) == 0 && count == congee_count(map), "count, tried");
     need(congee_shared_try_charged(shared, &charged) == 0 && charged == congee_shared_charged(shared), "charged, tried");
     need(congee_shared_try_is_empty(shared) == (count == 0), "is_empty, tried");
+    congee_shared_usage(shared, &bytes, &limit);
+    need(bytes == charged && limit == (sharded ? UINT64_MAX / 64 * 64 : LIMIT), "usage");
+    bytes = limit = 99;
+    need(congee_shared_try_usage(shared, &bytes, &limit) == 0 && bytes == charged && bytes <= limit && limit != 99, "usage, tried");
 }
 
 struct list {
@@ -239,7 +243,7 @@ static uint64_t call_all(int calls, uint64_t limit) {
 /* A shard has a 64th of the limit: room for its first node and little more. */
 static void try_limits(void) {
     struct congee_shared *map;
-    uint64_t stored = 0;
+    uint64_t stored = 0, bytes, limit;
     int code;
     need(congee_shared_new_sharded(64 * FIRST - 1, &map) == CONGEE_OOM && map == NULL, "a limit below the first nodes' sizes");
     need(congee_shared_new_sharded(64 * (FIRST + 64), &map) == 0 && congee_shared_charged(map) == 64 * FIRST, "the first nodes");
@@ -249,7 +253,8 @@ static void try_limits(void) {
     need(code == CONGEE_OOM && stored > 0, "a shard that is full");
     need(congee_shared_insert(map, 1 << 8, 1, NULL) == 0, "another shard has room");
     need(congee_shared_count(map) == stored + 1, "the pairs of both");
-    need(congee_shared_charged(map) <= 64 * (FIRST + 64), "the limit holds");
+    congee_shared_usage(map, &bytes, &limit);
+    need(bytes == congee_shared_charged(map) && limit == 64 * (FIRST + 64) && bytes <= limit, "the limit holds");
     congee_shared_free(map);
 }
 

@@ -34,7 +34,7 @@ THREADS = {
 }
 CALLS = {"new": "a new key", "get": "get", "overwrite": "overwrite"}
 BESIDE = {
-    "live": ("this map", "own"), "congee": ("the crate congee", "crate"), "shards": ("a shared map in shards", "second"),
+    "live": ("LiveMap", "own"), "congee": ("the crate congee", "crate"), "shards": ("SharedMap in 64 shards", "second"),
     "dashmap": ("dashmap", "hand"), "btree": ("Mutex<BTreeMap>", "tree"),
 }
 BESIDE_CALLS = {"new": "a new key", "get": "look-up", "overwrite": "overwrite"}

@@ -36,7 +36,7 @@ fn range<K: Ord + Copy>(dice: &mut Dice, one: K, other: K) -> Option<(Bound<K>, 
 /// Calls that all three maps have.
 macro_rules! common {
     ($map:expr, $std:expr, $dice:expr, $key:expr, $other:expr, $value:expr) => {
-        match $dice.roll(17) {
+        match $dice.roll(23) {
             0..=4 => assert_eq!(
                 $map.insert($key, $value).unwrap(),
                 $std.insert($key, $value)
@@ -60,6 +60,36 @@ macro_rules! common {
                 let was = $std.get(&$key).copied();
                 assert_eq!($map.insert_absent($key, $value).unwrap(), was);
                 $std.entry($key).or_insert($value);
+            }
+            16 => assert_eq!($map.pop_first(), $std.pop_first()),
+            17 => assert_eq!($map.pop_last(), $std.pop_last()),
+            18 => {
+                let halved = |it: Option<i16>| it.map(|it| it / 2).filter(|it| *it != 0);
+                let was = $std.remove(&$key);
+                assert_eq!($map.compute($key, halved).unwrap(), was);
+                if let Some(half) = halved(was) {
+                    $std.insert($key, half);
+                }
+            }
+            19 => assert!($map.range($key..).rev().take(9).eq($std
+                .range($key..)
+                .rev()
+                .take(9)
+                .map(copied))),
+            20 if $dice.roll(64) == 0 => {
+                $map.retain(|_, it| it % 3 != 0);
+                $std.retain(|_, it| *it % 3 != 0);
+            }
+            21 if $dice.roll(16) == 0 => {
+                if let Some(of) = range(&mut $dice, $key, $other) {
+                    let keys: Vec<_> = $std.range(of).map(|it| *it.0).collect();
+                    assert_eq!($map.remove_range(of), keys.len() as u64);
+                    $std.retain(|key, _| keys.binary_search(key).is_err());
+                }
+            }
+            22 if $dice.roll(256) == 0 => {
+                $map.clear();
+                $std.clear();
             }
             _ => {
                 if let Some(of) = range(&mut $dice, $key, $other) {
@@ -89,12 +119,10 @@ fn own<K: Word + Ord + Debug>(
     key: K,
     value: i16,
 ) {
-    match dice.roll(7) {
-        0 => assert_eq!(map.pop_first(), std.pop_first()),
-        1 => assert_eq!(map.pop_last(), std.pop_last()),
-        2 => assert_eq!(map.remove_entry(key), std.remove_entry(&key)),
-        3 => assert_eq!(map.get_key_value(key), std.get_key_value(&key).map(copied)),
-        4 => {
+    match dice.roll(5) {
+        0 => assert_eq!(map.remove_entry(key), std.remove_entry(&key)),
+        1 => assert_eq!(map.get_key_value(key), std.get_key_value(&key).map(copied)),
+        2 => {
             let it = map
                 .entry(key)
                 .and_modify(|it| it.wrapping_add(1))
@@ -106,7 +134,7 @@ fn own<K: Word + Ord + Debug>(
                     .or_insert(value)
             );
         }
-        5 if dice.roll(64) == 0 => {
+        3 if dice.roll(64) == 0 => {
             let taken: Vec<(K, i16)> = map.extract_if(|_, it| it % 5 == 0).take(7).collect();
             assert!(taken.iter().copied().eq(std
                 .iter()
@@ -115,15 +143,7 @@ fn own<K: Word + Ord + Debug>(
                 .take(7)));
             std.retain(|key, _| taken.iter().all(|it| it.0 != *key));
         }
-        _ if dice.roll(64) == 0 => {
-            map.retain(|_, it| it % 3 != 0);
-            std.retain(|_, it| *it % 3 != 0);
-        }
-        _ => assert!(map
-            .range(key..)
-            .rev()
-            .take(9)
-            .eq(std.range(key..).rev().take(9).map(copied))),
+        _ => {}
     }
 }
 
@@ -152,7 +172,7 @@ fn compare<K: Word + Ord + Debug>(calls: usize, mut key: impl FnMut(&mut Dice) -
     }
     assert_eq!(format!("{map:?}"), format!("{std:?}"));
     assert!(shared.iter().rev().eq(std_shared.iter().rev().map(copied)));
-    assert!(live.iter().eq(std_live.iter().map(copied)));
+    assert!(live.iter().rev().eq(std_live.iter().rev().map(copied)));
     assert_eq!(map, OrdMap::try_from_iter(std.iter().map(copied)).unwrap());
     assert!(map.into_iter().rev().eq(std.into_iter().rev()));
 }

@@ -1,8 +1,11 @@
 //! Guards of a `LiveMap`: mixed calls by two of them in turn, each answer compared with that of a `BTreeMap`. Then threads that
-//! add, remove, read ranges and count on one map, so that sums have to agree and keys that stay have to be read.
+//! add, remove, read ranges and count on one map, so that sums have to agree and keys that stay have to be read. Threads that
+//! pop beside those that insert: each pair goes to one of them, and none is lost. A thread that clears beside others. Closures that
+//! change their key by another guard.
 
-use proved_congee::{LiveGuard, LiveMap, OutOfMemory, Pair};
+use proved_congee::{Busy, LiveGuard, LiveMap, OutOfMemory, Pair};
 use std::collections::BTreeMap;
+use std::sync::atomic::{AtomicBool, AtomicU64, Ordering};
 use std::thread;
 
 const CALLS: u64 = 500_000;
@@ -35,22 +38,22 @@ fn compared(plain: &Plain, at: u64, expected: u64) -> Result<(), Option<u64>> {
 fn change(guard: &LiveGuard, plain: &mut Plain, at: u64, value: u64, seed: &mut u64) {
     // (one thread calls, so no call is busy)
     let waits = next(seed) % 2 == 0;
-    match next(seed) % 7 {
-        0 | 1 => {
+    match next(seed) % 9 {
+        0..=2 => {
             let wanted = plain.insert(at, value);
             match waits {
                 true => assert_eq!(guard.insert(at, value), Ok(wanted)),
                 false => assert_eq!(guard.try_insert(at, value), Ok(wanted)),
             }
         }
-        2 => {
+        3 => {
             let wanted = plain.remove(&at);
             match waits {
                 true => assert_eq!(guard.remove(at), wanted),
                 false => assert_eq!(guard.try_remove(&at), Ok(wanted)),
             }
         }
-        3 => {
+        4 => {
             let wanted = plain.get(&at).copied();
             let sum = wanted.map_or(value, |before| before.wrapping_add(value));
             plain.insert(at, sum);
@@ -59,14 +62,14 @@ fn change(guard: &LiveGuard, plain: &mut Plain, at: u64, value: u64, seed: &mut 
                 false => assert_eq!(guard.try_add(at, value), Ok(wanted)),
             }
         }
-        4 => {
+        5 => {
             let wanted = *plain.entry(at).or_insert(value);
             match waits {
                 true => assert_eq!(guard.get_or_insert(at, value), Ok(wanted)),
                 false => assert_eq!(guard.try_get_or_insert(at, value), Ok(wanted)),
             }
         }
-        5 => {
+        6 => {
             let wanted = compared(plain, at, 3);
             if wanted.is_ok() {
                 plain.insert(at, value);
@@ -76,7 +79,7 @@ fn change(guard: &LiveGuard, plain: &mut Plain, at: u64, value: u64, seed: &mut 
                 false => assert_eq!(guard.try_compare_exchange(at, 3, value), Ok(wanted)),
             }
         }
-        _ => {
+        7 => {
             let wanted = compared(plain, at, value);
             if wanted.is_ok() {
                 plain.remove(&at);
@@ -85,6 +88,77 @@ fn change(guard: &LiveGuard, plain: &mut Plain, at: u64, value: u64, seed: &mut 
                 true => assert_eq!(guard.compare_remove(at, value), wanted),
                 false => assert_eq!(guard.try_compare_remove(at, value), Ok(wanted)),
             }
+        }
+        _ if waits => {
+            let halved = |current: Option<u64>| current.map(|it| it / 2).filter(|it| *it > 0);
+            let wanted = plain.remove(&at);
+            if let Some(half) = halved(wanted) {
+                plain.insert(at, half);
+            }
+            assert_eq!(guard.compute(at, halved), Ok(wanted));
+        }
+        _ => {
+            let wanted = *plain.entry(at).or_insert(value);
+            assert_eq!(guard.get_or_insert_with(at, || value), Ok(wanted));
+        }
+    }
+}
+
+/// Calls that remove pairs at the ends, or many.
+fn end(guard: &LiveGuard, plain: &mut Plain, at: u64, seed: &mut u64) {
+    match next(seed) % 512 {
+        0 => {
+            guard.clear();
+            plain.clear();
+        }
+        1 => {
+            guard.retain(|key, value| (key ^ value) % 4 > 0);
+            plain.retain(|key, value| (*key ^ *value) % 4 > 0);
+        }
+        2 => {
+            let more = (0..100).map(|i| (at.wrapping_add(i << 30), i));
+            assert!(guard.extend(more.clone()).is_ok());
+            plain.extend(more);
+        }
+        3..=10 => {
+            let last = at.saturating_add(1 << 50);
+            let keys: Vec<u64> = plain.range(at..=last).map(|(key, _)| *key).collect();
+            assert_eq!(guard.remove_range(at..=last), keys.len() as u64);
+            for key in keys {
+                plain.remove(&key);
+            }
+        }
+        it if it % 4 == 0 => assert_eq!(guard.pop_first(), plain.pop_first()),
+        it if it % 4 == 1 => assert_eq!(guard.pop_last(), plain.pop_last()),
+        it if it % 4 == 2 => assert_eq!(guard.try_pop_first(), Ok(plain.pop_first())),
+        _ => assert_eq!(guard.try_pop_last(), Ok(plain.pop_last())),
+    }
+}
+
+/// Pages and iterators downwards, and an iterator from both ends.
+fn read_down(guard: &LiveGuard, plain: &Plain, at: u64, seed: &mut u64) {
+    let last = at.saturating_add(next(seed) % (1 << 60));
+    let (mut page, n) = ([Pair::default(); 40], (next(seed) % 41) as usize);
+    let count = match next(seed) % 2 {
+        0 => guard.read_range_descending(at, last, &mut page[..n]),
+        _ => guard
+            .try_read_range_descending(at, last, &mut page[..n])
+            .expect("no other thread calls"),
+    };
+    let wanted = || plain.range(at..=last).map(|(key, value)| (*key, *value));
+    let written = page[..count].iter().map(|pair| (pair.key, pair.value));
+    assert!(written.eq(wanted().rev().take(n)));
+    assert_eq!(
+        guard.read_range_descending(last, at, &mut page[..n]),
+        usize::from(last == at && n > 0 && plain.contains_key(&at))
+    );
+    let backwards = guard.range(at..=last).rev();
+    assert!(backwards.take(100).eq(wanted().rev().take(100)));
+    let (mut ours, mut theirs) = (guard.range(at..=last), plain.range(at..=last));
+    for _ in 0..200 {
+        match next(seed) % 2 {
+            0 => assert_eq!(ours.next(), pair(theirs.next())),
+            _ => assert_eq!(ours.next_back(), pair(theirs.next_back())),
         }
     }
 }
@@ -104,7 +178,10 @@ fn read(guard: &LiveGuard, plain: &Plain, at: u64, seed: &mut u64) {
         3 => assert_eq!(guard.try_ceiling(at), Ok(pair(plain.range(at..).next()))),
         4 => assert_eq!(guard.above(at), pair(above)),
         5 => assert_eq!(guard.last(), pair(plain.last_key_value())),
-        6 => assert_eq!(guard.try_floor(at), Ok(pair(plain.range(..=at).next_back()))),
+        6 => assert_eq!(
+            guard.try_floor(at),
+            Ok(pair(plain.range(..=at).next_back()))
+        ),
         7 => assert_eq!(guard.below(at), pair(plain.range(..at).next_back())),
         8 => {
             let wanted = plain.range(at..).take_while(|(key, _)| **key < last);
@@ -126,7 +203,10 @@ fn read(guard: &LiveGuard, plain: &Plain, at: u64, seed: &mut u64) {
 }
 
 fn count(guard: &LiveGuard, plain: &Plain) {
-    assert_eq!((guard.len(), guard.try_len()), (plain.len(), Ok(plain.len())));
+    assert_eq!(
+        (guard.len(), guard.try_len()),
+        (plain.len(), Ok(plain.len()))
+    );
     assert_eq!(guard.is_empty(), plain.is_empty());
     assert_eq!(guard.try_is_empty(), Ok(plain.is_empty()));
 }
@@ -141,12 +221,20 @@ fn beside_btree() -> Result<(), OutOfMemory> {
         let guard = &guards[(next(&mut seed) % 2) as usize];
         let (at, value) = (key(&mut seed), next(&mut seed) % 4);
         change(guard, &mut plain, at, value, &mut seed);
-        if next(&mut seed) % 4 == 0 {
-            read(guard, &plain, at, &mut seed);
+        match next(&mut seed) % 16 {
+            0..=2 => read(guard, &plain, at, &mut seed),
+            3 => read_down(guard, &plain, at, &mut seed),
+            4..=5 => end(guard, &mut plain, at, &mut seed),
+            _ => {}
         }
         if call % 5000 == 0 {
             count(guard, &plain);
         }
+    }
+    assert!(guards[0].keys().rev().eq(plain.keys().rev().copied()));
+    assert!(guards[1].values().eq(plain.values().copied()));
+    for (key, value) in &guards[0] {
+        assert_eq!(plain.get(&key), Some(&value));
     }
     assert!(guards[0].iter().eq(plain));
     Ok(())
@@ -190,9 +278,209 @@ fn by_threads() -> Result<(), OutOfMemory> {
     Ok(())
 }
 
+/// Pops by one of the four calls, until the map is empty and no thread inserts any more. Returns what it got.
+fn pops(guard: &LiveGuard, inserting: &AtomicBool, id: u64) -> Vec<(u64, u64)> {
+    let mut got = Vec::new();
+    loop {
+        // (asked first: what was inserted before is there)
+        let may_come = inserting.load(Ordering::SeqCst);
+        let found = match id {
+            0 => guard.pop_first(),
+            1 => guard.pop_last(),
+            _ => loop {
+                let found = match id {
+                    2 => guard.try_pop_first(),
+                    _ => guard.try_pop_last(),
+                };
+                match found {
+                    Ok(found) => break found,
+                    Err(Busy) => thread::yield_now(),
+                }
+            },
+        };
+        match found {
+            Some(pair) => got.push(pair),
+            None if may_come => thread::yield_now(),
+            None => return got,
+        }
+    }
+}
+
+/// Four threads pop beside two that insert, each with values of its own: each pair goes to one of them, and none is lost.
+fn each_pair_to_one() -> Result<(), OutOfMemory> {
+    let map = LiveMap::new()?;
+    let inserting = AtomicBool::new(true);
+    let mut got = thread::scope(|scope| {
+        let takers: Vec<_> = (0..4)
+            .map(|id| {
+                let (map, inserting) = (&map, &inserting);
+                scope.spawn(move || pops(&map.pin().unwrap(), inserting, id))
+            })
+            .collect();
+        let makers: Vec<_> = (0..2)
+            .map(|id| {
+                let map = &map;
+                scope.spawn(move || {
+                    let (guard, mut seed) = (map.pin().unwrap(), id);
+                    let mut own = 0;
+                    while own < EACH / 2 {
+                        // (a key comes again, with another value)
+                        let at = key(&mut seed) & 0x3f;
+                        match guard.insert_absent(at, own * 2 + id).unwrap() {
+                            None => own += 1,
+                            Some(_) => thread::yield_now(),
+                        }
+                    }
+                })
+            })
+            .collect();
+        makers
+            .into_iter()
+            .for_each(|it| it.join().expect("no maker panics"));
+        inserting.store(false, Ordering::SeqCst);
+        let got = takers
+            .into_iter()
+            .flat_map(|it| it.join().expect("no taker panics"));
+        got.collect::<Vec<_>>()
+    });
+    assert_eq!(got.len() as u64, EACH);
+    // (each value was stored once)
+    got.sort_unstable_by_key(|pair| pair.1);
+    assert!(got.windows(2).all(|it| it[0].1 < it[1].1));
+    assert!(map.pin()?.is_empty());
+    Ok(())
+}
+
+/// Threads count keys up by `compute` and let them go at a multiple of ten, beside one that reads downwards: no step is lost.
+fn computes() -> Result<(), OutOfMemory> {
+    let map = LiveMap::new()?;
+    let gone = AtomicU64::new(0);
+    thread::scope(|scope| {
+        for id in 0..THREADS {
+            let (guard, gone) = (map.pin()?, &gone);
+            scope.spawn(move || {
+                let mut seed = id;
+                for i in 0..EACH {
+                    let at = next(&mut seed) % 8;
+                    let raised =
+                        |it: Option<u64>| Some(it.unwrap_or(0) + 1).filter(|it| it % 10 > 0);
+                    if guard.compute(at, raised).unwrap() == Some(9) {
+                        gone.fetch_add(10, Ordering::Relaxed);
+                    }
+                    if i % 64 == 0 {
+                        let keys: Vec<u64> = guard.keys().rev().collect();
+                        assert!(keys.windows(2).all(|it| it[0] > it[1]) && keys.len() <= 8);
+                    }
+                }
+            });
+        }
+        Ok::<(), OutOfMemory>(())
+    })?;
+    let left: u64 = map.pin()?.values().sum();
+    assert_eq!(gone.into_inner() + left, THREADS * EACH);
+    Ok(())
+}
+
+/// Calls that change many pairs, beside threads that store and remove others: each key that stays is removed, or is found.
+fn many_beside_writers() -> Result<(), OutOfMemory> {
+    let map = LiveMap::new()?;
+    let guard = map.pin()?;
+    thread::scope(|scope| {
+        for id in 1..THREADS {
+            let guard = map.pin()?;
+            scope.spawn(move || {
+                for i in 0..EACH {
+                    let own = i % 64 * 256 + id;
+                    guard.insert(own, i).unwrap();
+                    let _ = guard.compare_remove(own, i);
+                }
+            });
+        }
+        for round in 0..100 {
+            guard.extend((0..64).map(|key| (key * 256, round)))?;
+            let mut page = [Pair::default(); 64 * THREADS as usize];
+            let count = guard.read_range_descending(0, 64 * 256, &mut page);
+            let found = page[..count].iter().map(|it| it.key);
+            assert!(found
+                .filter(|key| key % 256 == 0)
+                .eq((0..64).rev().map(|key| key * 256)));
+            match round % 3 {
+                0 => guard.clear(),
+                1 => guard.retain(|key, _| key % 256 > 0),
+                _ => assert!(guard.remove_range(..=63 * 256) >= 64),
+            }
+            assert!((0..64).all(|key| guard.get(key * 256).is_none()));
+        }
+        Ok::<(), OutOfMemory>(())
+    })?;
+    guard.clear();
+    assert!(guard.is_empty());
+    Ok(())
+}
+
+/// Closures during which another guard changes the key.
+fn meddled() -> Result<(), OutOfMemory> {
+    let map = LiveMap::new()?;
+    let (guard, other) = (map.pin()?, map.pin()?);
+    let late = || {
+        assert_eq!(other.insert(7, 70), Ok(None));
+        71
+    };
+    assert_eq!(guard.get_or_insert_with(7, late)?, 70);
+    let mut seen = Vec::new();
+    let before = guard.compute(7, |value| {
+        seen.push(value);
+        match seen.len() {
+            1 => assert_eq!(other.insert(7, 80), Ok(Some(70))),
+            2 => assert_eq!(other.remove(7), Some(80)),
+            3 => assert_eq!(other.insert(7, 90), Ok(None)),
+            _ => {}
+        }
+        Some(seen.len() as u64)
+    });
+    assert_eq!((before, guard.get(7)), (Ok(Some(90)), Some(4)));
+    assert_eq!(seen, [Some(70), Some(80), None, Some(90)]);
+    guard.extend([(8, 80), (9, 90), (600, 6000)])?;
+    guard.retain(|key, _| {
+        if key == 8 {
+            assert_eq!(other.insert(8, 81), Ok(Some(80)));
+        }
+        key > 8
+    });
+    assert!(guard.iter().eq([(8, 81), (9, 90), (600, 6000)]));
+    Ok(())
+}
+
+/// Four threads remove one range at once: each pair counts for one of them.
+fn each_counts_for_one() -> Result<(), OutOfMemory> {
+    let map = LiveMap::new()?;
+    for _ in 0..20 {
+        map.pin()?.extend((0..4096).map(|key| (key * 3, key)))?;
+        let removed: u64 = thread::scope(|scope| {
+            let removers: Vec<_> = (0..THREADS)
+                .map(|_| scope.spawn(|| map.pin().unwrap().remove_range(..)))
+                .collect();
+            let counts = removers
+                .into_iter()
+                .map(|it| it.join().expect("no thread panics"));
+            counts.sum()
+        });
+        assert_eq!((removed, map.pin()?.len()), (4096, 0));
+    }
+    Ok(())
+}
+
 fn main() -> Result<(), OutOfMemory> {
-    beside_btree()?;
+    // (with a word it makes the calls of threads alone, which may be busy)
+    if std::env::args().count() == 1 {
+        beside_btree()?;
+    }
     by_threads()?;
+    each_pair_to_one()?;
+    computes()?;
+    many_beside_writers()?;
+    meddled()?;
+    each_counts_for_one()?;
     println!("{CALLS} calls beside a BTreeMap, {THREADS} threads");
     Ok(())
 }

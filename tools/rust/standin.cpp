@@ -382,7 +382,9 @@ int32_t congee_c_shared_pop_first(congee_shared_handle *h, AT) { SHARED(h, pop_f
 int32_t congee_c_shared_pop_last(congee_shared_handle *h, AT) { SHARED(h, pop_last(p, out)) }
 int32_t congee_c_shared_clear(congee_shared_handle *h) { SHARED(h, (p.clear(), 0)) }
 int32_t congee_c_shared_is_empty(congee_const_shared_handle *h, OUT) { SHARED(h, (*out = p.empty(), 0)) }
-int32_t congee_c_shared_charged(congee_const_shared_handle *h, OUT) { SHARED(h, (*out = charged(p), 0)) }
+int32_t congee_c_shared_usage(congee_const_shared_handle *h, uint64_t *bytes, uint64_t *limit) {
+    SHARED(h, (*bytes = charged(p), *limit = in.held.of->limit, 0))
+}
 uint64_t congee_c_live_limit(congee_const_live_handle *h) { PLAIN(h, guard, in.held.of->limit) }
 uint64_t congee_c_live_charged(congee_const_live_handle *h) { PLAIN(h, guard, 8192) }
 void congee_c_live_usage(congee_const_live_handle *h, uint64_t *charged, uint64_t *limit) {

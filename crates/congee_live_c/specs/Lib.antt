@@ -1,3 +1,4 @@
 pub mod Answer
+pub mod Holding
 pub mod Pairs
 pub mod inner

@@ -35,7 +35,8 @@ pub extern "C" fn congee_c_live_add(
     ensures kept { result ≢ pos 1 → before.new ≡ before.old }
     ensures place { handle.new.ptr ≡ handle.old.ptr }
 {
-    answer(handle.as_mut().guard.add(alloc, key, number), before)
+    let held = handle.as_mut();
+    answer(held.pool.add(alloc, &mut held.guard, key, number), before)
 }
 
 /// Gives the key the value if it has none. Answers 0 then, and 1 for a present key, whose value is written to `found`; or
@@ -59,8 +60,9 @@ pub extern "C" fn congee_c_live_get_or_insert(
     ensures kept { result ≢ pos 1 → found.new ≡ found.old }
     ensures place { handle.new.ptr ≡ handle.old.ptr }
 {
+    let held = handle.as_mut();
     answer(
-        handle.as_mut().guard.get_or_insert(alloc, key, value),
+        held.pool.get_or_insert(alloc, &mut held.guard, key, value),
         found,
     )
 }
@@ -88,7 +90,11 @@ pub extern "C" fn congee_c_live_compare_remove(
     ensures kept { result ≢ pos 2 → found.new ≡ found.old }
     ensures place { handle.new.ptr ≡ handle.old.ptr }
 {
-    match handle.as_mut().guard.compare_exchange(key, expected, None) {
+    let held = handle.as_mut();
+    match held
+        .pool
+        .compare_exchange(&mut held.guard, key, expected, None)
+    {
         Ok(Ok(_)) => 1,
         Ok(Err(None)) => 0,
         Ok(Err(Some(current))) => {

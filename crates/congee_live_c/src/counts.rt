@@ -13,6 +13,7 @@ ghost use Rattle.congee_live_c.specs.Answer.{busy, capped};
 use crate::BUSY;
 use crate::handle::Handle;
 use live_calls::map::Busy;
+use live_counts::counts;
 
 /// Writes to `out` how many pairs there are, which saturates at `u64::MAX`, and answers 0, or answers `BUSY`. Reads all nodes
 /// that have values. Takes no memory and no lock.
@@ -25,7 +26,8 @@ pub extern "C" fn congee_c_live_count(handle: &mut Handle, out: &mut u64) -> i32
         × GaveUp handle.old.held.guard handle.new.held.guard }
     ensures place { handle.new.ptr ≡ handle.old.ptr }
 {
-    match handle.as_mut().guard.count() {
+    let held = handle.as_mut();
+    match counts::count(&held.pool.map, &mut held.guard) {
         Ok(number) => {
             *out = narrowed(number);
             0

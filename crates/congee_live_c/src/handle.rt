@@ -1,22 +1,22 @@
-//! A box of a caller whose pointer C may hold.
+//! A box of a guard and its share of the map, whose pointer C may hold.
 //!
 //! Tested in `tools/c-library`.
 
 ghost use Rattle.std.specs.Prelude.{◌≡◌, IfOk};
 ghost use Rattle.congee_live_c.specs.inner.Owned.{held_coded, handle_owns};
-ghost use Rattle.congee_live_c.specs.declared.held.Held.{Held};
+ghost use Rattle.congee_live_c.specs.Holding.{Holding};
 
 use crate::held::Held;
 use crate::parts::Parts;
 use std::alloc::{AllocError, Global};
 use std::marker::Model;
 
-/// What C holds: the address of a caller on the heap, which the handle owns. One word; `Global` takes no bytes.
+/// What C holds: the address of a guard and its share on the heap, which the handle owns. One word; `Global` takes no bytes.
 #[repr(C)]
 pub struct Handle {
     pub ptr: *mut u8,
     pub(crate) alloc: Global,
-    pub ghost held: { Held } by { held_coded },
+    pub ghost held: { Holding } by { held_coded },
 }
 
 impl Model for Handle {
@@ -31,21 +31,21 @@ impl Handle {
     ghost use Rattle.congee_live_c.specs.contracts.held.Held.{the_row as held_row};
     ghost use Rattle.congee_live_c.specs.inner.After.{with_held};
 
-    /// Puts the caller on the heap, or returns `AllocError` where there is no memory for that; the caller is dropped then.
+    /// Puts the guard and its share on the heap, or returns `AllocError` where there is no memory for that: they are dropped then.
     pub fn new(alloc: Global, held: Held) -> Result<Handle, AllocError>
         ensures { IfOk result (λ handle. handle.held ≡ held) }
     {
         Ok(Handle::of_box(Box::new(alloc, held)?))
     }
 
-    /// The handle of a caller that is on the heap.
+    /// The handle of what is on the heap.
     pub fn of_box(held: Box<Held>) -> Handle
         ensures { result.held ≡ held.value }
     {
         Handle::of_parts(Parts::of(held))
     }
 
-    /// The caller, still on the heap.
+    /// What the handle holds, still on the heap.
     pub fn into_box(self) -> Box<Held>
         ensures { result.value ≡ self.held }
     {
@@ -72,21 +72,21 @@ impl Handle {
         }
     }
 
-    /// The caller, at its place on the heap.
+    /// What the handle holds, at its place on the heap.
     pub fn as_mut(&mut self) -> &mut Held
         ensures* writes_back { sem 𝓛
             (follows the_row held_row self.entry.ghost_name result.ghost_name (with_held self.old)) }
         ensures value { result.now ≡ self.old.held }
     {
-        // The handle owns the block at its pointer, and is borrowed for as long as the caller is.
+        // The handle owns the block at its pointer, and is borrowed for as long as what it holds is.
         unsafe { &mut *(self.ptr as *mut Held) }
     }
 
-    /// Drops the caller, and frees its block.
+    /// Drops what the handle holds, and frees its block.
     pub fn free(self) {
         drop(self.into_box());
     }
 }
 
-// The caller moves with the handle, and any thread may free its block.
+// What a handle holds moves with it, and any thread may free its block.
 unsafe impl Send for Handle {}

@@ -33,7 +33,6 @@ mod room;
 
 pub use handle::Handle;
 use held::Held;
-use live_callers::caller::Caller;
 use live_calls::map::{Busy, Refusal};
 use live_order::page::RangeEntry;
 pub use room::Room;
@@ -71,12 +70,13 @@ pub extern "C" fn congee_c_live_new(alloc: Global, limit: u64, out: &mut Room) -
     ensures code { (result ≡ pos 0) ⊎ (result ≡ oom) }
     ensures made { result ≡ pos 0 → IsSome out.new.held }
     ensures unseen { result ≡ pos 0 → IfSome out.new.held (λ held. held.guard.seen ≡ []) }
+    ensures limit { result ≡ pos 0 → IfSome out.new.held (λ held. held.guard.book.limit ≡ limit) }
     ensures refused { result ≡ oom → out.new ≡ out.old }
 {
-    let Ok(guard) = Caller::first(alloc, limit) else {
+    let Ok(held) = Held::first(alloc, limit) else {
         return OOM;
     };
-    let Ok(handle) = Handle::new(alloc, Held { guard }) else {
+    let Ok(handle) = Handle::new(alloc, held) else {
         return OOM;
     };
     *out = Room::of(handle);
@@ -86,19 +86,21 @@ pub extern "C" fn congee_c_live_new(alloc: Global, limit: u64, out: &mut Room) -
 /// The limit in bytes that the map was made with, or `u64::MAX`. Takes constant time.
 #[unsafe(no_mangle)]
 pub extern "C" fn congee_c_live_limit(handle: &mut Handle) -> u64
+    ensures limit { result ≡ handle.old.held.guard.book.limit }
     ensures same { handle.new.held ≡ handle.old.held }
     ensures place { handle.new.ptr ≡ handle.old.ptr }
 {
-    handle.as_mut().guard.limit()
+    handle.as_mut().pool.map.limit()
 }
 
-/// The bytes of the segments that the map has so far. Takes constant time.
+/// The bytes of the segments that the map has so far, which are within its limit. Takes constant time.
 #[unsafe(no_mangle)]
 pub extern "C" fn congee_c_live_charged(handle: &mut Handle) -> u64
+    ensures within { result ≤ handle.old.held.guard.book.limit }
     ensures same { handle.new.held ≡ handle.old.held }
     ensures place { handle.new.ptr ≡ handle.old.ptr }
 {
-    handle.as_mut().guard.usage().0
+    handle.as_mut().pool.map.usage().0
 }
 
 /// Writes the bytes of the segments that the map has so far to `charged`, and its limit, which they are within, to `limit`.
@@ -106,10 +108,11 @@ pub extern "C" fn congee_c_live_charged(handle: &mut Handle) -> u64
 #[unsafe(no_mangle)]
 pub extern "C" fn congee_c_live_usage(handle: &mut Handle, charged: &mut u64, limit: &mut u64)
     ensures within { charged.new ≤ limit.new }
+    ensures limit { limit.new ≡ handle.old.held.guard.book.limit }
     ensures same { handle.new.held ≡ handle.old.held }
     ensures place { handle.new.ptr ≡ handle.old.ptr }
 {
-    let (bytes, most) = handle.as_mut().guard.usage();
+    let (bytes, most) = handle.as_mut().pool.map.usage();
     *charged = bytes;
     *limit = most;
 }
@@ -129,10 +132,10 @@ pub extern "C" fn congee_c_live_another(alloc: Global, handle: &mut Handle, out:
     ensures refused { result ≡ oom → (out.new ≡ out.old) × (handle.new.held ≡ handle.old.held) }
     ensures place { handle.new.ptr ≡ handle.old.ptr }
 {
-    let Ok(guard) = handle.as_mut().guard.beside() else {
+    let Ok(held) = handle.as_mut().beside(false) else {
         return OOM;
     };
-    let Ok(mut other) = Handle::new(alloc, Held { guard }) else {
+    let Ok(mut other) = Handle::new(alloc, held) else {
         return OOM;
     };
     handle.as_mut().guard.meet(&mut other.as_mut().guard);
@@ -158,7 +161,8 @@ pub extern "C" fn congee_c_live_get(handle: &mut Handle, key: u64, value: &mut u
     ensures kept { result ≢ pos 1 → value.new ≡ value.old }
     ensures place { handle.new.ptr ≡ handle.old.ptr }
 {
-    match handle.as_mut().guard.get(key) {
+    let held = handle.as_mut();
+    match held.pool.map.get(&mut held.guard, key) {
         Ok(Some(found)) => {
             *value = found;
             1
@@ -189,7 +193,8 @@ pub extern "C" fn congee_c_live_insert(
     ensures kept { result ≢ pos 1 → before.new ≡ before.old }
     ensures place { handle.new.ptr ≡ handle.old.ptr }
 {
-    match handle.as_mut().guard.insert(alloc, key, value) {
+    let held = handle.as_mut();
+    match held.pool.insert(alloc, &mut held.guard, key, value) {
         Ok(Some(old)) => {
             *before = old;
             1
@@ -212,7 +217,8 @@ pub extern "C" fn congee_c_live_remove(handle: &mut Handle, key: u64, before: &m
     ensures kept { result ≢ pos 1 → before.new ≡ before.old }
     ensures place { handle.new.ptr ≡ handle.old.ptr }
 {
-    match handle.as_mut().guard.remove(key) {
+    let held = handle.as_mut();
+    match held.pool.remove(&mut held.guard, key) {
         Ok(Some(old)) => {
             *before = old;
             1
@@ -246,8 +252,11 @@ pub extern "C" fn congee_c_live_compare_exchange(
     ensures kept { result ≢ pos 2 → found.new ≡ found.old }
     ensures place { handle.new.ptr ≡ handle.old.ptr }
 {
-    let guard = &mut handle.as_mut().guard;
-    match guard.compare_exchange(key, expected, Some(desired)) {
+    let held = handle.as_mut();
+    match held
+        .pool
+        .compare_exchange(&mut held.guard, key, expected, Some(desired))
+    {
         Ok(Ok(_)) => 1,
         Ok(Err(None)) => 0,
         Ok(Err(Some(current))) => {

@@ -8,7 +8,6 @@ ghost use Rattle.congee_live_c.specs.Answer.{oom};
 
 use crate::OOM;
 use crate::handle::Handle;
-use crate::held::Held;
 use crate::room::Room;
 use std::alloc::Global;
 
@@ -42,10 +41,10 @@ pub extern "C" fn congee_c_live_note(alloc: Global, handle: &mut Handle, out: &m
     ensures refused { result ≡ oom → (out.new ≡ out.old) × (handle.new.held ≡ handle.old.held) }
     ensures place { handle.new.ptr ≡ handle.old.ptr }
 {
-    let Ok(guard) = handle.as_mut().guard.bare() else {
+    let Ok(held) = handle.as_mut().beside(true) else {
         return OOM;
     };
-    let Ok(mut note) = Handle::new(alloc, Held { guard }) else {
+    let Ok(mut note) = Handle::new(alloc, held) else {
         return OOM;
     };
     handle.as_mut().guard.meet(&mut note.as_mut().guard);

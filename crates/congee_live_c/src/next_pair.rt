@@ -14,6 +14,7 @@ ghost use Rattle.congee_live_c.specs.Pairs.{pair_of};
 use crate::handle::Handle;
 use crate::{BUSY, Pair};
 use live_calls::map::Busy;
+use live_scans::scans;
 
 /// Writes the pair with the least key to `pair` and answers 1, or answers 0 for an empty map, or `BUSY`. Takes no memory and
 /// no lock.
@@ -29,7 +30,8 @@ pub extern "C" fn congee_c_live_first(handle: &mut Handle, pair: &mut Pair) -> i
     ensures kept { result ≢ pos 1 → pair.new ≡ pair.old }
     ensures place { handle.new.ptr ≡ handle.old.ptr }
 {
-    answer_pair(handle.as_mut().guard.ceiling(0), pair)
+    let held = handle.as_mut();
+    answer_pair(scans::ceiling(&held.pool.map, &mut held.guard, 0), pair)
 }
 
 /// Writes the pair with the least key that is at least this one to `pair` and answers 1, or answers 0 where there is none,
@@ -46,7 +48,8 @@ pub extern "C" fn congee_c_live_ceiling(handle: &mut Handle, key: u64, pair: &mu
     ensures kept { result ≢ pos 1 → pair.new ≡ pair.old }
     ensures place { handle.new.ptr ≡ handle.old.ptr }
 {
-    answer_pair(handle.as_mut().guard.ceiling(key), pair)
+    let held = handle.as_mut();
+    answer_pair(scans::ceiling(&held.pool.map, &mut held.guard, key), pair)
 }
 
 /// Writes the pair with the least key above this one to `pair` and answers 1, or answers 0 where there is none, or `BUSY`.
@@ -63,7 +66,8 @@ pub extern "C" fn congee_c_live_above(handle: &mut Handle, key: u64, pair: &mut 
     ensures kept { result ≢ pos 1 → pair.new ≡ pair.old }
     ensures place { handle.new.ptr ≡ handle.old.ptr }
 {
-    answer_pair(handle.as_mut().guard.above(key), pair)
+    let held = handle.as_mut();
+    answer_pair(scans::above(&held.pool.map, &mut held.guard, key), pair)
 }
 
 // 1 with the pair written to the place, or 0, or `BUSY`.

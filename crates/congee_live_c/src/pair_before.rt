@@ -14,6 +14,7 @@ ghost use Rattle.congee_live_c.specs.Pairs.{pair_of};
 use crate::Pair;
 use crate::handle::Handle;
 use crate::next_pair::answer_pair;
+use live_floors::floors;
 
 /// Writes the pair with the greatest key to `pair` and answers 1, or answers 0 for an empty map, or `BUSY`.
 /// Takes no memory and no lock.
@@ -29,7 +30,8 @@ pub extern "C" fn congee_c_live_last(handle: &mut Handle, pair: &mut Pair) -> i3
     ensures kept { result ≢ pos 1 → pair.new ≡ pair.old }
     ensures place { handle.new.ptr ≡ handle.old.ptr }
 {
-    answer_pair(handle.as_mut().guard.last(), pair)
+    let held = handle.as_mut();
+    answer_pair(floors::last(&held.pool.map, &mut held.guard), pair)
 }
 
 /// Writes the pair with the greatest key that is at most this one to `pair` and answers 1, or answers 0 where there is none, or `BUSY`.
@@ -46,7 +48,8 @@ pub extern "C" fn congee_c_live_floor(handle: &mut Handle, key: u64, pair: &mut 
     ensures kept { result ≢ pos 1 → pair.new ≡ pair.old }
     ensures place { handle.new.ptr ≡ handle.old.ptr }
 {
-    answer_pair(handle.as_mut().guard.floor(key), pair)
+    let held = handle.as_mut();
+    answer_pair(floors::floor(&held.pool.map, &mut held.guard, key), pair)
 }
 
 /// Writes the pair with the greatest key below this one to `pair` and answers 1, or answers 0 where there is none, or `BUSY`.
@@ -63,5 +66,6 @@ pub extern "C" fn congee_c_live_below(handle: &mut Handle, key: u64, pair: &mut 
     ensures kept { result ≢ pos 1 → pair.new ≡ pair.old }
     ensures place { handle.new.ptr ≡ handle.old.ptr }
 {
-    answer_pair(handle.as_mut().guard.below(key), pair)
+    let held = handle.as_mut();
+    answer_pair(floors::below(&held.pool.map, &mut held.guard, key), pair)
 }

@@ -15,6 +15,7 @@ ghost use Rattle.congee_live_c.specs.Pairs.{pair_of};
 use crate::handle::Handle;
 use crate::{BUSY, Pair};
 use live_calls::map::Busy;
+use live_scans::scans;
 
 /// Writes pairs with keys from `start` on and below `end`, keys ascending, as many as there are or as fit, and to `out` how
 /// many. The buffer's entries after them are unspecified. If the buffer is full, the next page begins behind the last key.
@@ -35,7 +36,8 @@ pub extern "C" fn congee_c_live_range(
         × GaveUp handle.old.held.guard handle.new.held.guard }
     ensures place { handle.new.ptr ≡ handle.old.ptr }
 {
-    match handle.as_mut().guard.range(start, end, buffer) {
+    let held = handle.as_mut();
+    match scans::range(&held.pool.map, &mut held.guard, start, end, buffer) {
         Ok(written) => {
             *out = written as u64;
             0
@@ -44,7 +46,9 @@ pub extern "C" fn congee_c_live_range(
     }
 }
 
-/// The same with keys from `start` to `last`, both included.
+/// Writes pairs with keys from `start` to `last`, both included, keys ascending, as many as there are or as fit, and to `out` how
+/// many. The buffer's entries after them are unspecified. If the buffer is full, the next page begins behind the last key.
+/// Answers 0, or `BUSY`, after which all of the buffer is unspecified. Takes no memory and no lock.
 #[unsafe(no_mangle)]
 pub extern "C" fn congee_c_live_range_inclusive(
     handle: &mut Handle,
@@ -61,7 +65,8 @@ pub extern "C" fn congee_c_live_range_inclusive(
         × GaveUp handle.old.held.guard handle.new.held.guard }
     ensures place { handle.new.ptr ≡ handle.old.ptr }
 {
-    match handle.as_mut().guard.range_inclusive(start, last, buffer) {
+    let held = handle.as_mut();
+    match scans::range_inclusive(&held.pool.map, &mut held.guard, start, last, buffer) {
         Ok(written) => {
             *out = written as u64;
             0

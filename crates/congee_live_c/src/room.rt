@@ -3,7 +3,7 @@
 //! Tested in `tools/c-library`.
 
 ghost use Rattle.std.specs.Prelude.{◌≡◌, Option, Some};
-ghost use Rattle.congee_live_c.specs.declared.held.Held.{Held};
+ghost use Rattle.congee_live_c.specs.Holding.{Holding};
 ghost use Rattle.congee_live_c.specs.inner.Owned.{room_owns, room_coded};
 
 use crate::handle::Handle;
@@ -16,7 +16,7 @@ use std::marker::Model;
 pub struct Room {
     ptr: *mut u8,
     alloc: Global,
-    pub ghost held: { Option Held } by { room_coded },
+    pub ghost held: { Option Holding } by { room_coded },
 }
 
 impl Model for Room {

@@ -2,16 +2,13 @@
 //!
 //! Tested in `tools/c-library`.
 
-ghost use Rattle.std.specs.Prelude.{◌≡◌, ◌⊎◌, ℕ, List, true, false, length, pos};
+ghost use Rattle.std.specs.Prelude.{◌≡◌, ◌≤◌, ◌⊎◌, ℕ, true, false, pos};
 ghost use Rattle.node_stats.specs.LevelCounts.{capped};
-ghost use Rattle.node_table.specs.Charge.{BudgetView};
 ghost use Rattle.spec_map.specs.Call.{count, counted, is_empty, tested};
 ghost use Rattle.spec_map.specs.Map.{Pairs};
 ghost use Rattle.spec_olc.specs.Runs.{same_number};
-ghost use Rattle.tree_edit.specs.Tree.{TreeView};
-ghost use Rattle.tree_edit.specs.TreeCalls.{IsChargeOf};
 ghost use Rattle.share_rule.specs.Known.{MadeCall, MadeCalls};
-ghost use Rattle.share_visits.specs.Charged.{IsChargeOfAll, sum_of};
+ghost use Rattle.share_calls.specs.Charged.{IsCharged};
 ghost use Rattle.share_works.specs.Made.{returned, clearing};
 ghost use Rattle.congee_shared_c.specs.Answer.{busy};
 
@@ -62,23 +59,27 @@ pub extern "C" fn congee_c_shared_is_empty(handle: &mut Handle, out: &mut u64) -
     }
 }
 
-/// Writes the sum in bytes of the stated sizes of the map's nodes to `out`, which saturates at `u64::MAX`, and answers 0,
-/// or answers `BUSY`. The sum is of the trees of one moment, one for each shard, whose pairs were counted then. Takes
-/// constant time.
+/// Writes the sum in bytes of the stated sizes of the map's nodes to `charged`, and the map's limit, which the sum is
+/// within, to `limit`, and answers 0, or answers `BUSY`. The sum is of the trees of one moment, one for each shard, whose
+/// pairs were counted then. Takes constant time.
 #[unsafe(no_mangle)]
-pub extern "C" fn congee_c_shared_charged(handle: &mut Handle, out: &mut u64) -> i32
+pub extern "C" fn congee_c_shared_usage(
+    handle: &mut Handle,
+    charged: &mut u64,
+    limit: &mut u64,
+) -> i32
     ensures code { (result ≡ pos 0) ⊎ (result ≡ busy) }
-    ensures made { result ≡ pos 0 → (trees : List (TreeView ℕ BudgetView)) × (bytes : ℕ)
-        × (length trees ≡ handle.old.held.guard.table.slots)
-        × MadeCall same_number handle.old.held.guard
-        (returned count (counted (sum_of (λ tree. length tree.pairs) trees))) handle.new.held.guard
-        × IsChargeOfAll IsChargeOf trees bytes × (out.new ≡ capped bytes) }
-    ensures missed { result ≡ busy → (handle.new.held ≡ handle.old.held) × (out.new ≡ out.old) }
+    ensures made { result ≡ pos 0
+        → IsCharged handle.old.held.guard charged.new handle.new.held.guard }
+    ensures within { result ≡ pos 0 → charged.new ≤ limit.new }
+    ensures missed { result ≡ busy → (handle.new.held ≡ handle.old.held)
+        × (charged.new ≡ charged.old) × (limit.new ≡ limit.old) }
     ensures place { handle.new.ptr ≡ handle.old.ptr }
 {
-    match handle.as_mut().guard.charged() {
-        Ok(bytes) => {
-            *out = narrowed(bytes);
+    match handle.as_mut().guard.usage() {
+        Ok((bytes, most)) => {
+            *charged = narrowed(bytes);
+            *limit = most;
             0
         }
         Err(_) => BUSY,

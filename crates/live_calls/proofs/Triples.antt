@@ -70,7 +70,7 @@ triple_regained v w b b' words_r words_x words_p free_r free_x free_p name h x p
       are_p = subst (λ (z : Book). AreOf (place_at p) z words_p) (sym same) pair.are_p;
     }
 
-module _ (v : Seen) (b : Book) (words_r words_x words_p : List Name) (free_r free_x free_p : ℕ) (r x p : Spot) (dr dx dp : Content) (h : Triple v b words_r words_x words_p free_r free_x free_p r x p dr dx dp) where
+module _ {v : Seen} {b : Book} {words_r words_x words_p : List Name} {free_r free_x free_p : ℕ} {r x p : Spot} {dr dx dp : Content} (h : Triple v b words_r words_x words_p free_r free_x free_p r x p dr dx dp) where
   abbrev hold_r : Hold
   hold_r = hold r.number (free_r + 2) dr
 

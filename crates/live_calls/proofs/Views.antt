@@ -1,5 +1,5 @@
 -- What a seat knows, step by step.
-use Rattle.std.proofs.Common.{◌≡◌, ◌≢◌, ℕ, ◌+◌, ◌-◌, ◌*◌, ◌<◌, ◌^◌, zero, suc, Bool, true, false, cond, List, [], ◌∷◌, ◌++◌, length, get_or, Option, Some, None, IfSome, refl, sym, ap, ◌∙◌, subst, inl, inr, arith, eq-eqb}
+use Rattle.std.proofs.Common.{◌≡◌, ◌≢◌, ℕ, ◌+◌, ◌-◌, ◌*◌, ◌<◌, zero, suc, Bool, true, false, cond, List, [], ◌∷◌, ◌++◌, length, get_or, Option, Some, None, IfSome, refl, sym, ap, ◌∙◌, subst, inl, inr, arith, eq-eqb}
 use Rattle.node_table.specs.TableNode.{TableNode, Child}
 use Rattle.node_table.specs.declared.child.Child.TheVariants.{Payload, Node as Below}
 use Rattle.spec_map.specs.Map.{lookup}
@@ -18,9 +18,8 @@ use Rattle.live_encodes.specs.Encodes.{words_of, IsBelow, IsWord, Encodes}
 use Rattle.live_encodes.proofs.StandLaws.{few_forms}
 use Rattle.live_law.specs.Levels.{up, digit, Shape, Spot, spot, name_of, Covers, place_at}
 use Rattle.live_law.specs.Views.{View, Ask, got}
-use Rattle.live_law.specs.Tree.{IsMap, LearnsRoot, IsRoot, LearnsNode, LearnsHead, Headed, Looks, GoesTo, HasAnswer, Answers, IsOfKind, IsNow, IsOf}
-use Rattle.live_law.proofs.Plans.{root-top}
-use Rattle.live_law.proofs.Looks.{root_learns, node_looks, node_heads}
+use Rattle.live_law.specs.Tree.{IsMap, LearnsNode, LearnsHead, Headed, Looks, GoesTo, HasAnswer, Answers, IsOfKind, IsNow, IsOf}
+use Rattle.live_law.proofs.Looks.{node_looks, node_heads}
 use Rattle.live_calls.specs.Ways.{KnowsTrunk, Names, Sights, AreNamed, HasOpened, IsOpen, Keeps, Told}
 
 abbrev Seen : Type 0
@@ -88,41 +87,6 @@ module _ (v : Seen) (known : KnowsTrunk v) (k₁ : ℕ) (at₁ : 1 ≡ k₁) whe
         pub trunk_read : v₂ ≡ reading v 0 n ((0, x) ∷ [])
         trunk_read = saw_it trunk 0 (subst KnowsTrunk (sym trunk_taken) known) (let l : 0 < 1 = omega arith in l) at₂
             ∙ (ap (λ (z : Seen). saw z 0 (0, x)) trunk_taken ∙ ap (λ (rs : List Read). seat_view v.client v.places rs v.holds v.room) (saw_first 0 n (0, x) [] v.reads))
-
-        module _ (k₃ : ℕ) (at₃ : 1 ≡ k₃) where
-          pub may_check_trunk : (id : ℕ) → MayCheck v₂ k₃ IsMap id LearnsRoot n
-          may_check_trunk id = subst (λ (z : Seen). MayCheck z k₃ IsMap id LearnsRoot n) (sym trunk_read)
-              (trunk, read 0 n ((0, x) ∷ []), (known, at₃), head_read 0 n ((0, x) ∷ []) v.reads, refl, root_learns id v.client n x (read 0 n ((0, x) ∷ []) ∷ v.reads))
-
-          module _ (w : Seen) (m : ℕ) (told : Checks LearnsRoot (reads k₃) v₂ m none_joined w) where
-            checked : Plays.Checked (LearnsRoot v.client 0 n ((0, x) ∷ [])) n (reading v 0 n ((0, x) ∷ [])) m w
-            checked = subst (λ (z : Seen). Checks LearnsRoot (reads k₃) z m none_joined w) trunk_read told trunk (read 0 n ((0, x) ∷ [])) known at₃ (head_read 0 n ((0, x) ∷ []) v.reads)
-
-            pub trunk_missed : m ≢ n → Keeps v w × (w.client ≡ v.client)
-            trunk_missed ne = reading_keeps v w 0 n ((0, x) ∷ []) (checked.miss ne)
-
-            pub trunk_none : m ≡ n → x ≡ 0 → Keeps v w × (w.client ≡ v.client)
-            trunk_none hit zero_is =
-                let h = checked.hit hit in
-                let e = (h.3 x refl).1 zero_is in
-                (learned_keeps v w h.0 h.1 (read 0 n ((0, x) ∷ []) ∷ v.reads) h.2 (λ b in_it. subst (λ (z : View). IsIn b z.met) (sym e.1) in_it) (ap (λ (z : View). z.own) e.1), ap (λ (z : Seen). z.client) h.2 ∙ e.1)
-
-            pub trunk_names : m ≡ n → 0 < x → (key : ℕ) → key < 2 ^ 64 → Keeps v w × (w.client.seen ≡ v.client.seen) × Names w x key 8
-            trunk_names hit some_root key l =
-                let h = checked.hit hit in
-                let r : IsRoot v.client x h.0 h.1 = (h.3 x refl).0 some_root in
-                let a : Spot = r.spot in (
-                  learned_keeps v w h.0 h.1 (read 0 n ((0, x) ∷ []) ∷ v.reads) h.2 (λ b in_it. subst (λ (z : View). IsIn b z.met) (sym r.is) (inr in_it)) (ap (λ (z : View). z.own) r.is),
-                  ap (λ (z : Seen). z.client.seen) h.2 ∙ ap (λ (z : View). z.seen) r.is,
-                  record {
-                    spot = a;
-                    met = subst (λ (z : Seen). IsIn a z.client.met) (sym h.2) (subst (λ (z : View). IsIn a z.met) (sym r.is) (inl refl));
-                    placed = subst (λ (z : Seen). IsIn (place_at a) z.places) (sym h.2) (subst (λ (ps : List Place). IsIn (place_at a) (ps ++ v.places)) (sym r.place) (inl refl));
-                    named = r.named;
-                    high = r.height;
-                    covers = ap (λ (z : ℕ). up z key) r.height ∙ (root-top key l ∙ sym r.top);
-                  },
-                )
 
 -- A NODE
 pub if_some : {A : Type 0} {P Q : A → Type 0} (o : Option A) → ((x : A) → P x → Q x) → IfSome o P → IfSome o Q

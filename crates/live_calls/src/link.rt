@@ -146,7 +146,8 @@ pub fn link<A: Asks>(
     Ok(())
 }
 
-/// The same by a node that is used again, whose name is kept as a spare one. It is kept no longer once it is locked.
+/// Makes an empty leaf for a key below this node, where there is none, of a node that is used again. Its name is kept as a spare
+/// one until it is locked.
 pub fn link_again<A: Asks>(
     nodes: &Nodes,
     name: u64,

@@ -1,5 +1,5 @@
 //! The map, and its callers.
-ghost use Rattle.std.specs.Prelude.{◌≡◌, ◌≢◌, ℕ, ◌*◌, ◌≤◌, [], IfOk, OnErr};
+ghost use Rattle.std.specs.Prelude.{◌≡◌, ◌≢◌, ℕ, ◌-◌, ◌*◌, ◌≤◌, ◌^◌, [], IfOk, OnErr};
 ghost use Rattle.word_segments.specs.Segments.{before};
 ghost use Rattle.live_law.specs.Views.{ask, got, inserted};
 ghost use Rattle.live_law.specs.Known.{MadeCall};
@@ -83,14 +83,18 @@ impl Guard {
 }
 
 impl Congee {
-    /// An empty map. It has a root of 2,104 bytes. There is no limit.
-    pub fn new(alloc: Global) -> Result<Congee, AllocError> {
+    /// An empty map. It has a root of 2,104 bytes. There is no limit: it is `u64::MAX`.
+    pub fn new(alloc: Global) -> Result<Congee, AllocError>
+        ensures limit { IfOk result (λ map. map.limit ≡ 2 ^ 64 - 1) }
+    {
         Congee::with_limit(alloc, u64::MAX)
     }
 
     /// An empty map, whose segments may take so many bytes together. `AllocError` also where the first one of 8,192 bytes
     /// is more.
-    pub fn with_limit(alloc: Global, limit: u64) -> Result<Congee, AllocError> {
+    pub fn with_limit(alloc: Global, limit: u64) -> Result<Congee, AllocError>
+        ensures limit { IfOk result (λ map. map.limit ≡ limit) }
+    {
         let nodes: Nodes = Heap::with_limit(alloc, 1, limit)?;
         let mut pass = nodes.enter();
         let mut room = Room {
@@ -107,7 +111,9 @@ impl Congee {
     }
 
     /// The limit in bytes that the map was made with, or `u64::MAX`.
-    pub fn limit(&self) -> u64 {
+    pub fn limit(&self) -> u64
+        ensures { result ≡ self.now.limit }
+    {
         self.nodes.limit()
     }
 
@@ -115,15 +121,9 @@ impl Congee {
     pub fn usage(&self) -> (u64, u64)
         ensures whole { (n : ℕ) × (result.0 ≡ 8 * before n) }
         ensures within { result.0 ≤ result.1 }
+        ensures limit { result.1 ≡ self.now.limit }
     {
         self.nodes.usage(&mut self.nodes.enter())
-    }
-
-    /// The bytes of the segments that the map has so far.
-    pub fn charged(&self) -> u64
-        ensures whole { (n : ℕ) × (result ≡ 8 * before n) }
-    {
-        self.nodes.charged(&mut self.nodes.enter())
     }
 
     /// A caller, which has seen nothing yet.

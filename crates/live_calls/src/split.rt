@@ -76,7 +76,8 @@ pub fn split<A: Asks>(
     true
 }
 
-/// The same by a node that is used again, whose name is kept as a spare one. It is kept no longer once it is in use.
+/// Puts a node that is used again between a node and one below it whose way the key leaves. That one stays as it is. The name of
+/// the node that is used again is kept as a spare one until it is in use. `false` where a writer came in between.
 pub fn split_again<A: Asks>(
     nodes: &Nodes,
     above: u64,

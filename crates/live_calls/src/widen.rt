@@ -108,7 +108,9 @@ pub fn widen<A: Asks>(
     true
 }
 
-/// The same by a node that is used again, whose name is kept as a spare one. It is kept no longer once it is locked.
+/// Puts a larger node that is used again in the place of this one, below the node above, on the way of a key. The name of the
+/// larger node is kept as a spare one until it is locked. `false` where this one is the largest, or a writer is busy at one of
+/// them.
 pub fn widen_again<A: Asks>(
     nodes: &Nodes,
     above: u64,

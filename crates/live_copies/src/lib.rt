@@ -4,7 +4,7 @@
 //! no node of the map can change. At that moment the caller learns the whole history, and that it leads to these pairs. Then
 //! all nodes are unlocked.
 //!
-//! Tested in `test_live_copies`.
+//! Tested in `test_live_calls`.
 #![tactic(auto)]
 
 mod children;

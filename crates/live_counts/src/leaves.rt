@@ -73,7 +73,8 @@ fn try_step(
     }
 }
 
-/// The same in some tries, from the root on after the first. `None` where too many writers came in between.
+/// One step from the first key of a leaf on, in some tries, from the root on after the first: the pairs of a leaf are written into
+/// the buffer, or keys are passed that are absent. `None` where too many writers came in between.
 pub fn step_on(
     nodes: &Nodes,
     stand: Option<Stand>,

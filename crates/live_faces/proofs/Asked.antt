@@ -1,5 +1,5 @@
 -- A closure that was called before.
-use Rattle.std.proofs.Common.{◌≡◌, ℕ, Option, sym, subst}
+use Rattle.std.proofs.Common.{◌≡◌, ℕ, Option, subst}
 use Rattle.live_law.specs.Known.{Known}
 use Rattle.live_computes.specs.Closures.{Reaches}
 use Rattle.live_computes.proofs.Reached.{last_on}

@@ -1,7 +1,7 @@
 //! `Congee`, the map from keys to values that numbers represent, which threads read without a lock.
 //!
 //! Tested in `test_live_faces`.
-ghost use Rattle.std.specs.Prelude.{◌≡◌, ◌≢◌, ◌≤◌, [], IfOk, IfErr, OnErr};
+ghost use Rattle.std.specs.Prelude.{◌≡◌, ◌≢◌, ◌-◌, ◌≤◌, ◌^◌, [], IfOk, IfErr, OnErr};
 ghost use Rattle.live_updates.specs.Refusals.{FoundNone, Refused};
 ghost use Rattle.std.specs.Option.{option_map};
 ghost use Rattle.live_law.specs.Views.{ask, got, inserted};
@@ -62,7 +62,9 @@ fn read_back<V: Word>(number: Option<u64>) -> Option<V>
 
 impl<K: Word, V: Word> Congee<K, V> {
     /// An empty map. It has a root of 2,104 bytes. `OOMError` if there is no memory for it.
-    pub fn new(alloc: Global) -> Result<Self, OOMError> {
+    pub fn new(alloc: Global) -> Result<Self, OOMError>
+        ensures limit { IfOk result (λ map. map.limit ≡ 2 ^ 64 - 1) }
+    {
         Congee::with_limit(alloc, u64::MAX)
     }
 
@@ -71,7 +73,9 @@ impl<K: Word, V: Word> Congee<K, V> {
     ///
     /// A call that needs one more than the limit is for is out of memory. Nodes that were taken out are used again, and are not
     /// cut: a map that was emptied of dense keys may refuse most keys that lie far from one another, and a new map takes them.
-    pub fn with_limit(alloc: Global, limit: u64) -> Result<Self, OOMError> {
+    pub fn with_limit(alloc: Global, limit: u64) -> Result<Self, OOMError>
+        ensures limit { IfOk result (λ map. map.limit ≡ limit) }
+    {
         Ok(Congee {
             pool: Pool::with_limit(alloc, limit)?,
             of: PhantomData,
@@ -79,20 +83,25 @@ impl<K: Word, V: Word> Congee<K, V> {
     }
 
     /// The limit in bytes that the map was made with, or `u64::MAX`.
-    pub fn limit(&self) -> u64 {
+    pub fn limit(&self) -> u64
+        ensures { result ≡ self.now.limit }
+    {
         self.pool.map.limit()
     }
 
     /// The bytes of the segments that the map has so far, and the limit, which they are within. Other threads may make more
     /// segments meanwhile.
     pub fn usage(&self) -> (u64, u64)
-        ensures { result.0 ≤ result.1 }
+        ensures within { result.0 ≤ result.1 }
+        ensures limit { result.1 ≡ self.now.limit }
     {
         self.pool.map.usage()
     }
 
-    /// The bytes of the segments that the map has so far. Other threads may make more meanwhile.
-    pub fn charged(&self) -> u64 {
+    /// The bytes of the segments that the map has so far, which are within the limit. Other threads may make more meanwhile.
+    pub fn charged(&self) -> u64
+        ensures { result ≤ self.now.limit }
+    {
         self.usage().0
     }
 
@@ -126,7 +135,7 @@ impl<K: Word, V: Word> Congee<K, V> {
         Ok(read_back(number))
     }
 
-    /// The same, which pauses where `try_get` is busy, and goes on.
+    /// The current value of the key, read back from its number. Pauses where `try_get` is busy, and goes on.
     pub fn get<R: Wait>(&self, rt: &R, guard: &mut Guard, key: &K) -> Option<V>
         requires map { guard.old.book ≡ self.now }
         ensures map { guard.new.book ≡ guard.old.book }
@@ -165,8 +174,8 @@ impl<K: Word, V: Word> Congee<K, V> {
         Ok(read_back(number))
     }
 
-    /// The same, which pauses where `try_insert` is busy, and goes on. `OOMError` if memory was missing: then the pairs are
-    /// as they were.
+    /// Stores a value at the key, and returns the previous one, read back from its number. Pauses where `try_insert` is busy,
+    /// and goes on. `OOMError` if memory was missing for a new key: then a look-up of the key is entered, which found none.
     pub fn insert<R: Wait>(
         &self,
         rt: &R,

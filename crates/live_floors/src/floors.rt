@@ -47,7 +47,7 @@ fn try_step(nodes: &Nodes, root: u64, key: u64, pass: &mut Pass) -> Option<Step>
     }
 }
 
-// The same in some tries. `None` where too many writers came in between.
+// One step from a key down, by the root's name, in some tries. `None` where too many writers came in between.
 fn step_down(nodes: &Nodes, root: u64, key: u64, pass: &mut Pass) -> Option<Step>
     requires book { pass.old.book ≡ nodes.now }
     requires root { Names pass.old.view root key 8 }

@@ -1,44 +1,17 @@
 -- What the trunk's check teaches: the root is met, and who begins enters this.
-use Rattle.std.proofs.Common.{◌≡◌, ⊎_elim, ℕ, ◌-◌, ◌<◌, ◌≤◌, nat_eq, List, [], ◌∷◌, ◌++◌, length, length-set, set, refl, sym, ap, ◌∙◌, subst, arith}
+use Rattle.std.proofs.Common.{◌≡◌, ⊎_elim, ℕ, ◌-◌, List, [], ◌∷◌, ◌++◌, set, refl, sym, ap, ◌∙◌, subst, arith}
 use mathlib.Core.Option.{some}
 use lib.ListN.{get_elem?}
-use Rattle.atomic_table.proofs.Lists.{at_set, set_again}
-use Rattle.share_rule.specs.History.{Entry, IsHistory, IsLegalHistory}
-use Rattle.share_rule.specs.inner.Rule.{HasSeen}
-use Rattle.live_nodes.proofs.Frames.{below}
+use Rattle.atomic_table.proofs.Lists.{set_again}
 use Rattle.live_nodes.specs.Nodes.{at, Node, node}
 use Rattle.live_nodes.specs.Seats.{Each}
 use Rattle.live_law.specs.Levels.{up, Spot, spot, place_at}
 use Rattle.live_law.specs.Views.{View, view_of}
-use Rattle.live_law.specs.Tree.{Knows, IsMet, IsMap, Answers}
+use Rattle.live_law.specs.Tree.{IsMet, IsMap, Answers}
 use Rattle.live_law.specs.Begun.{began}
-use Rattle.live_law.specs.Roots.{History, IsRoot, LearnsRoot, MayLearnRoot}
-use Rattle.live_law.proofs.Histories.{began_legal, others_alike, sees_all, sees_less}
-use Rattle.live_law.proofs.Looks.{with_view, met_there}
-
--- ONE VIEW CHANGES, AND ITS SEAT HAS ENTERED what leaves the map as it is
-module _ (ns : List Node) (vs : List View) (id : ℕ) (p : IsMap ns vs) (v : View) (seat : get_elem? vs id ≡ some v) (e : Entry ℕ) (by : e.caller ≡ id) (legal : IsHistory nat_eq (p.history ++ e ∷ []) p.pairs) (met : List Spot) (are_met : Each (IsMet p.plan ns) met) where
-  abbrev longer : History
-  longer = p.history ++ e ∷ []
-
-  pub with_entry : IsMap ns (set vs id (view_of longer met v.own))
-  with_entry =
-      let k = p.each_view id v seat in record {
-        plan = p.plan;
-        contents = p.contents;
-        history = longer;
-        pairs = p.pairs;
-        legal = legal;
-        nodes = p.nodes;
-        settled = p.settled;
-        alive = p.alive;
-        tree = p.tree;
-        each_view = λ j u at_j. ⊎_elim
-            (λ t. subst (λ (x : ℕ × View). Knows p.plan ns p.contents longer x.0 x.1) (λ i. (sym t.0 i, t.1 i)) record { seen = sees_all id longer; met = are_met; own = k.own; watched = tt })
-            (λ t. let o = p.each_view j u t.1 in record { seen = sees_less j p.history u.seen e (λ same. t.0 (same ∙ by)) o.seen; met = o.met; own = o.own; watched = o.watched })
-            (at_set vs id j (view_of longer met v.own) u at_j);
-        unborn = λ c l. let m : length vs ≤ c = omega (arith, l, length-set vs id (view_of longer met v.own)) in others_alike c p.history e (λ same. absurd (let low = below vs id v seat in omega (arith, low, same, by, m))) ∙ p.unborn c m;
-      }
+use Rattle.live_law.specs.Roots.{History, MayLearnRoot}
+use Rattle.live_law.proofs.Histories.{began_legal}
+use Rattle.live_law.proofs.Looks.{with_view, with_entry, met_there}
 
 abbrev first_of : List (ℕ × ℕ) → ℕ
 first_of [] = 0

@@ -1,5 +1,5 @@
 -- What a check teaches, and that only the history and one view_of change.
-use Rattle.std.proofs.Common.{◌≡◌, ⊎_elim, ℕ, Bool, true, false, zero, suc, ◌+◌, ◌-◌, ◌*◌, ◌<◌, ◌≤◌, List, [], ◌∷◌, ◌++◌, length, length-set, set, Option, Some, None, refl, sym, ap, ◌∙◌, subst, arith}
+use Rattle.std.proofs.Common.{◌≡◌, ⊎_elim, ℕ, Bool, true, false, zero, suc, ◌+◌, ◌*◌, ◌<◌, ◌≤◌, nat_eq, List, [], ◌∷◌, ◌++◌, length, length-set, set, Option, Some, None, refl, sym, ap, ◌∙◌, subst, arith}
 use mathlib.Core.Option.{some}
 use mathlib.Core.Logic.{dite}
 use native.Mathlib.Decide.{ℕ_discrete}
@@ -9,17 +9,17 @@ use Rattle.node_table.specs.TableNode.{TableNode, Child}
 use Rattle.node_table.specs.declared.child.Child.TheVariants.{Payload, Node as Below}
 use Rattle.node_base.specs.Form.{form_place}
 use Rattle.spec_map.specs.Map.{Pairs, lookup}
-use Rattle.share_rule.specs.History.{Entry}
+use Rattle.share_rule.specs.History.{Entry, IsHistory}
 use Rattle.share_rule.specs.inner.Rule.{HasSeen}
 use Rattle.live_nodes.proofs.Frames.{below, each_in}
-use Rattle.live_nodes.specs.Nodes.{Content, at, Node, node}
+use Rattle.live_nodes.specs.Nodes.{Content, Node, node}
 use Rattle.live_nodes.specs.Seats.{Each, IsIn, Agree, Place, Read}
 use Rattle.live_nodes.specs.Rule.{PlaceFits, ReadFits}
 use Rattle.live_nodes.specs.Acts as acts
 use Rattle.live_encodes.specs.Encodes.{Encodes, IsBelow as HasBelow, IsWord}
 use Rattle.live_law.specs.Levels.{up, digit, Shape, name_of, Covers, way, Spot, spot, place_at}
 use Rattle.live_law.specs.Views.{View, view_of, Own, locked, Watch, watch, watching, Ask, got}
-use Rattle.live_law.specs.Tree.{Plan, home_of, IsFree, LeadsTo, HasValue, IsUnder, IsCurrent, IsSpot, IsMet, LeadsDown, IsBound, IsWatched, Knows, IsLocked, IsOwn, AreNodes, IsTree, IsMap, LearnsRoot, GoesTo, HasAnswer, Gets, Finds, Misses, Looks, IsOfKind, IsNow, IsOf, LearnsNode, LearnsMiss, LearnsHead, LearnsBelow}
+use Rattle.live_law.specs.Tree.{Plan, home_of, IsFree, LeadsTo, HasValue, IsUnder, IsCurrent, IsSpot, IsMet, LeadsDown, IsBound, IsWatched, Knows, IsLocked, IsOwn, AreNodes, IsTree, IsMap, GoesTo, HasAnswer, Gets, Finds, Misses, Looks, IsOfKind, IsNow, IsOf, LearnsNode, LearnsMiss, LearnsHead, LearnsBelow}
 use Rattle.live_law.proofs.Histories.{get_legal, others_alike, sees_all, sees_less}
 use Rattle.live_law.proofs.Plans.{digit-low, joined, at_home, missed, none_there, same_name, way-suc}
 
@@ -40,32 +40,29 @@ module _ (ns : List Node) (vs : List View) (id : ℕ) (p : IsMap ns vs) where
     unborn = λ c l. p.unborn c (omega (arith, l, length-set vs id w));
   }
 
-  -- ONE VIEW CHANGES, AND ITS SEAT HAS FOUND A VALUE
-  pub with_answer : (v : View) (q : Ask) (found : Option ℕ) → get_elem? vs id ≡ some v → q.caller ≡ id → lookup p.pairs q.key ≡ found → IsMap ns (set vs id (view_of (p.history ++ got q found ∷ []) v.met v.own))
-  with_answer v q found seat mine is =
-      let e : Entry ℕ = got q found in
-      let longer : List (Entry ℕ) = p.history ++ e ∷ [] in
+-- ONE VIEW CHANGES, AND ITS SEAT HAS ENTERED what leaves the map as it is
+module _ (ns : List Node) (vs : List View) (id : ℕ) (p : IsMap ns vs) (v : View) (seat : get_elem? vs id ≡ some v) (e : Entry ℕ) (by : e.caller ≡ id) (legal : IsHistory nat_eq (p.history ++ e ∷ []) p.pairs) (met : List Spot) (are_met : Each (IsMet p.plan ns) met) where
+  abbrev longer : List (Entry ℕ)
+  longer = p.history ++ e ∷ []
+
+  pub with_entry : IsMap ns (set vs id (view_of longer met v.own))
+  with_entry =
       let k = p.each_view id v seat in record {
         plan = p.plan;
         contents = p.contents;
         history = longer;
         pairs = p.pairs;
-        legal = get_legal p.history p.pairs q found p.legal is;
+        legal = legal;
         nodes = p.nodes;
         settled = p.settled;
         alive = p.alive;
         tree = p.tree;
         each_view = λ j u at_j. ⊎_elim
-            (λ t. subst (λ (x : ℕ × View). Knows p.plan ns p.contents longer x.0 x.1) (λ i. (sym t.0 i, t.1 i)) record { seen = sees_all id longer; met = k.met; own = k.own; watched = tt })
-            (λ t. let o = p.each_view j u t.1 in record { seen = sees_less j p.history u.seen e (λ same. t.0 (same ∙ mine)) o.seen; met = o.met; own = o.own; watched = o.watched })
-            (at_set vs id j (view_of longer v.met v.own) u at_j);
-        unborn = λ c l. let m : length vs ≤ c = omega (arith, l, length-set vs id (view_of longer v.met v.own)) in others_alike c p.history e (λ same. absurd (let low = below vs id v seat in omega (arith, low, same, mine, m))) ∙ p.unborn c m;
+            (λ t. subst (λ (x : ℕ × View). Knows p.plan ns p.contents longer x.0 x.1) (λ i. (sym t.0 i, t.1 i)) record { seen = sees_all id longer; met = are_met; own = k.own; watched = tt })
+            (λ t. let o = p.each_view j u t.1 in record { seen = sees_less j p.history u.seen e (λ same. t.0 (same ∙ by)) o.seen; met = o.met; own = o.own; watched = o.watched })
+            (at_set vs id j (view_of longer met v.own) u at_j);
+        unborn = λ c l. let m : length vs ≤ c = omega (arith, l, length-set vs id (view_of longer met v.own)) in others_alike c p.history e (λ same. absurd (let low = below vs id v seat in omega (arith, low, same, by, m))) ∙ p.unborn c m;
       }
-
--- THE TRUNK
-abbrev first_of : List (ℕ × ℕ) → ℕ
-first_of [] = 0
-first_of (x ∷ xs) = x.1
 
 -- a node that is current is met
 pub met_there : (ns : List Node) (vs : List View) (p : IsMap ns vs) (h t : ℕ) → 1 ≤ p.plan.home h t → IsMet p.plan ns (spot (p.plan.home h t) (p.plan.shape (p.plan.home h t)))
@@ -77,35 +74,6 @@ met_there ns vs p h t there =
       lasts = λ _. (refl, here);
       current = λ _. here;
     }
-
-pub root_learns : (id : ℕ) (v : View) (word x : ℕ) (reads : List Read) → acts.Learns IsMap id v 0 word ((0, x) ∷ []) reads (LearnsRoot v 0 word ((0, x) ∷ []))
-root_learns id v word x reads ns vs p seat low is free agree fits = ⊎_elim
-    (λ none. ([], tt, (v, subst (IsMap ns) (sym (set_again vs id v seat)) p, (λ x' e. ((λ some_root. absurd (let same : x ≡ x' = ap first_of e in let was : at (node ns 0).content 0 ≡ x = agree.0 in let zero_is = none.0 in omega (arith, same, some_root, was, zero_is))), (λ _. (refl, refl)))))))
-    (λ there.
-    let k : ℕ = p.plan.home 8 0 in
-    let h = p.tree.housed 8 0 there.0 in
-    let a : Spot = spot k (p.plan.shape k) in
-    let w : View = view_of v.seen (a ∷ v.met) v.own in
-    let knows = p.each_view id v seat in (
-      place_at a ∷ [],
-      ((h.low, p.nodes.placed k there.0 h.low, p.nodes.long k there.0 h.low), tt),
-      (
-        w,
-        with_view ns vs id p w record { seen = knows.seen; met = (met_there ns vs p 8 0 there.0, knows.met); own = knows.own; watched = tt },
-        (λ x' e. (
-          (λ some_root. record {
-            spot = a;
-            place = refl;
-            is = refl;
-            named = sym (ap first_of e) ∙ (sym agree.0 ∙ there.2);
-            height = p.tree.rooted there.0;
-            top = sym (ap (λ (z : ℕ). up (8 - z) a.shape.top) (p.tree.rooted there.0)) ∙ h.below.1;
-          }),
-          (λ zero_is. absurd (let same : x ≡ x' = ap first_of e in let was : at (node ns 0).content 0 ≡ x = agree.0 in let some_root = there.1 in omega (arith, same, some_root, was, zero_is))),
-        )),
-      ),
-    ))
-    p.tree.root
 
 -- A NODE
 module _ (ns : List Node) (vs : List View) (id : ℕ) (v : View) (p : IsMap ns vs) (seat : get_elem? vs id ≡ some v) (a : Spot) (mine : IsIn a v.met) where
@@ -177,7 +145,7 @@ module _ (q : Ask) (id : ℕ) (by : q.caller ≡ id) (v : View) (a : Spot) (mine
     has_answer : (found : Option ℕ) → lookup p.pairs q.key ≡ found → (w : View) × IsMap ns (set vs id w) × HasAnswer q found v w
     has_answer found is = let k = p.each_view id v seat in let legal = get_legal p.history p.pairs q found p.legal is in (
       view_of (p.history ++ got q found ∷ []) v.met v.own,
-      with_answer ns vs id p v q found seat by is,
+      with_entry ns vs id p v seat (got q found) by legal v.met k.met,
       record {
         is = refl;
         answers = record { whole = p.history; is = refl; fits = subst (λ (c : ℕ). HasSeen p.history c v.seen) (sym by) k.seen; legal = (p.pairs, legal) };

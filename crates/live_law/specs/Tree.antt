@@ -202,19 +202,6 @@ pub record Answers (caller : ℕ) (e : Entry ℕ) (seen seen' : List (Entry ℕ)
   pub fits : HasSeen whole caller seen
   pub legal : IsLegalHistory nat_eq (whole ++ e ∷ [])
 
--- THE TRUNK was read: which node is the root.
-pub record IsRoot (v : View) (x : ℕ) (ps : List Place) (w : View) : Type 0 where
-  pub spot : Spot
-  pub place : ps ≡ place_at spot ∷ []
-  pub is : w ≡ view_of v.seen (spot ∷ v.met) v.own
-  pub named : x ≡ name_of spot.shape
-  pub height : spot.shape.height ≡ 8
-  pub top : spot.shape.top ≡ 0
-
-abbrev pub LearnsRoot : View → ℕ → ℕ → List (ℕ × ℕ) → List Place → View → Type 0
-LearnsRoot v k word saw ps w = (x : ℕ) → saw ≡ (0, x) ∷ []
-    → (0 < x → IsRoot v x ps w) × (x ≡ 0 → (ps ≡ []) × (w ≡ v))
-
 -- The way of a key goes on at this node, if the node has keys that begin like it.
 pub record GoesTo (v : View) (a : Spot) (name : ℕ) (ps : List Place) (w : View) : Type 0 where
   pub spot : Spot

@@ -51,15 +51,6 @@ impl Asks for Brand {
     ghost reads = { false };
 }
 
-/// Which node is the root.
-pub struct Root;
-
-impl Lesson<Mine> for Root {
-    ghost use Rattle.live_law.specs.Tree.{LearnsRoot};
-
-    ghost told = { LearnsRoot };
-}
-
 /// A look-up goes on below a node, or ends there. Another call goes on, or learns nothing.
 pub struct Look<A> {
     of: PhantomData<A>,

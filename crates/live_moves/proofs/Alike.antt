@@ -1,5 +1,5 @@
 -- What the comparison of two lists of pairs decides.
-use Rattle.std.proofs.Common.{◌≡◌, ℕ, Bool, ◌&&◌, eqb, ap}
+use Rattle.std.proofs.Common.{◌≡◌, ℕ, ◌&&◌, eqb, ap}
 use Rattle.std.proofs.lemmas.Bool.Decides.{Decides-eqb, Decides-and, Decides-like}
 use Rattle.std.specs.Bool.{Decides}
 

@@ -1,5 +1,5 @@
 -- All pairs of a map, written into a list that has a place for each.
-use Rattle.std.proofs.Common.{◌≡◌, ℕ, ◌^◌, min, map, length, take, drop, List, ◌++◌, sym, ap, subst, ◌∙◌, append-nil, arith}
+use Rattle.std.proofs.Common.{◌≡◌, ℕ, ◌^◌, min, map, length, take, drop, ◌++◌, sym, ap, ◌∙◌, append-nil, arith}
 use Rattle.std.proofs.lemmas.List.{take_all, drop_all, take_at}
 use Rattle.spec_map.specs.Map.{Pairs, between, IsMap}
 use Rattle.spec_map.proofs.RangeLaws.{between-all}

@@ -1,5 +1,5 @@
 //! All nodes of one book, with their words in memory: the root's, and segments that come in while others read.
-ghost use Rattle.std.specs.Prelude.{◌≡◌, ℕ, ◌+◌, ◌*◌, ◌<◌, ◌≤◌, ◌^◌, [], ◌∷◌, length, replicate, None, IfOk, IfSome, IfNone, OnErr};
+ghost use Rattle.std.specs.Prelude.{◌≡◌, ℕ, ◌+◌, ◌-◌, ◌*◌, ◌<◌, ◌≤◌, ◌^◌, [], ◌∷◌, length, replicate, None, IfOk, IfSome, IfNone, OnErr};
 ghost use Rattle.word_book.specs.Book.{Book, book_coded, name};
 ghost use Rattle.word_segments.specs.Segments.{AreWords, before};
 ghost use Rattle.live_nodes.specs.Nodes.{node_at};
@@ -42,24 +42,26 @@ impl<V, L: NodeLaw<V>> Model for Heap<V, L> {
 
     ghost invariant = { λ h. (length h.trunk.items ≡ L.root + 2) × AreWords 0 h.door.book h.trunk.items
         × (h.segments ≡ record { base = L.root + 2; most = h.most; book = h.door.book })
-        × (8 * before h.most ≤ h.limit) };
+        × (8 * before h.most ≤ h.limit) × (h.door.book.limit ≡ h.limit) };
 }
 
 impl<V, L: NodeLaw<V>> Heap<V, L> {
-    /// The root alone, whose content is all 0. There is no limit.
+    /// The root alone, whose content is all 0. There is no limit: it is `u64::MAX`.
     pub fn new(alloc: Global, root: usize) -> Result<Heap<V, L>, AllocError>
         requires root { (root ≡ L.root) × (root < 2 ^ 32) }
         requires law { L.holds (node_at 1 0 (replicate root 0) None ∷ []) (L.first ∷ []) }
+        ensures limit { IfOk result (λ heap. heap.limit ≡ 2 ^ 64 - 1) }
     {
         Heap::with_limit(alloc, root, u64::MAX)
     }
 
-    /// The same, whose segments may take so many bytes together.
+    /// The root alone, whose content is all 0. All segments may take so many bytes together.
     pub fn with_limit(alloc: Global, root: usize, limit: u64) -> Result<Heap<V, L>, AllocError>
         requires root { (root ≡ L.root) × (root < 2 ^ 32) }
         requires law { L.holds (node_at 1 0 (replicate root 0) None ∷ []) (L.first ∷ []) }
+        ensures limit { IfOk result (λ heap. heap.limit ≡ limit) }
     {
-        let (door, pens) = room::open::<V, L>(root);
+        let (door, pens) = room::open::<V, L>(root, limit);
         let trunk = filled(Vec::with_capacity(alloc, root + 2)?, root + 2, pens);
         let most = fitting(limit);
         let segments = Segments::new(alloc, root as u64 + 2, most, &trunk[0])?;
@@ -73,7 +75,9 @@ impl<V, L: NodeLaw<V>> Heap<V, L> {
     }
 
     /// How many bytes all segments may take together.
-    pub fn limit(&self) -> u64 {
+    pub fn limit(&self) -> u64
+        ensures { result ≡ self.now.limit }
+    {
         self.limit
     }
 
@@ -83,20 +87,11 @@ impl<V, L: NodeLaw<V>> Heap<V, L> {
         ensures seat { (seat.new.book ≡ seat.old.book) × (seat.new.id ≡ seat.old.id) × (seat.new.view ≡ seat.old.view) }
         ensures whole { (n : ℕ) × (result.0 ≡ 8 * before n) }
         ensures within { result.0 ≤ result.1 }
+        ensures limit { result.1 ≡ self.now.limit }
     {
         let number = self.trunk[0].load::<Idle>(seat);
         let counted = number.min(self.most).min((1 << 44) - 1);
         (8 * before_of(counted), self.limit)
-    }
-
-    /// How many bytes the segments take that were counted so far: those of so many first ones.
-    pub fn charged(&self, seat: &mut Seat<V, L>) -> u64
-        requires { seat.old.book ≡ self.now }
-        ensures seat { (seat.new.book ≡ seat.old.book) × (seat.new.id ≡ seat.old.id) × (seat.new.view ≡ seat.old.view) }
-        ensures whole { (n : ℕ) × (result ≡ 8 * before n) }
-    {
-        let number = self.trunk[0].load::<Idle>(seat);
-        8 * before_of(number.min((1 << 44) - 1))
     }
 
     /// One more seat. It knows the root's place.
@@ -152,7 +147,8 @@ impl<V, L: NodeLaw<V>> Heap<V, L> {
         self.grow_within(alloc, self.most, seat)
     }
 
-    /// The same among so many first segments. An error where there are as many, before any memory is taken.
+    /// One more segment, if fewer than so many are counted, whose words are the seat's room from then on. `None` where another
+    /// thread is just making one. An error where there are as many, or the limit would be passed, before any memory is taken.
     pub fn grow_within(
         &self,
         alloc: Global,

@@ -12,14 +12,15 @@ use crate::law::{NodeLaw, Seat, Word};
 use crate::plays::{Birth, Encounter, Grow, Make, Meet, Put};
 use word_book::seat::Pens;
 
-/// A new book: the count of segments, which is 0, and the root, whose content is all 0.
-pub fn open<V, L: NodeLaw<V>>(root: usize) -> (Seat<V, L>, Pens)
+/// A new book with this limit: the count of segments, which is 0, and the root, whose content is all 0.
+pub fn open<V, L: NodeLaw<V>>(root: usize, limit: u64) -> (Seat<V, L>, Pens)
     requires root { (root ≡ L.root) × (root < 2 ^ 32) }
     requires law { L.holds (node_at 1 0 (replicate root 0) None ∷ []) (L.first ∷ []) }
     ensures seat { result.0.view ≡ seat_view L.first (place 0 1 root ∷ []) [] [] no_room }
     ensures pens { (result.1.book ≡ result.0.book) × (result.1.next ≡ 0) × (result.1.left ≡ root + 2) }
+    ensures limit { result.0.book.limit ≡ limit }
 {
-    Seat::open(root + 2)
+    Seat::open(root + 2, limit)
 }
 
 /// One more seat. It knows the root's place.

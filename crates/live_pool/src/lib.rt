@@ -6,7 +6,7 @@
 //! takes others' before it uses words of its room. Where a writer is busy at a node that a removal would take out, a later call
 //! takes it out. So a map that changes for ever has few more nodes than it needs.
 //!
-//! Tested in `test_live_pool`.
+//! Tested in `test_live_calls`.
 #![tactic(auto)]
 
 pub mod calls;

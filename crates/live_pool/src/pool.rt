@@ -2,7 +2,7 @@
 //!
 //! Nobody waits. What is in a slot is taken out by one step, and put back by another. Who finds each list of guards taken looks
 //! again a bounded number of times, and then goes without.
-ghost use Rattle.std.specs.Prelude.{◌≡◌, [], IfOk, IfSome};
+ghost use Rattle.std.specs.Prelude.{◌≡◌, ◌-◌, ◌^◌, [], IfOk, IfSome};
 ghost use Rattle.live_pool.specs.Pools.{AreOf, AreFor};
 
 use crate::deferred::Deferred;
@@ -105,14 +105,18 @@ fn no_keys(alloc: Global, map: &Congee) -> Result<Vec<Counted<Deferred>>, AllocE
 }
 
 impl Pool {
-    /// An empty map without a limit.
-    pub fn new(alloc: Global) -> Result<Pool, AllocError> {
+    /// An empty map without a limit: it is `u64::MAX`.
+    pub fn new(alloc: Global) -> Result<Pool, AllocError>
+        ensures limit { IfOk result (λ pool. pool.limit ≡ 2 ^ 64 - 1) }
+    {
         Pool::with_limit(alloc, u64::MAX)
     }
 
     /// An empty map. It has a root of 2,104 bytes, the slots, the stocks and the queues. Its segments may take so many bytes together, as
     /// in `Congee::with_limit`.
-    pub fn with_limit(alloc: Global, limit: u64) -> Result<Pool, AllocError> {
+    pub fn with_limit(alloc: Global, limit: u64) -> Result<Pool, AllocError>
+        ensures limit { IfOk result (λ pool. pool.limit ≡ limit) }
+    {
         let map = Congee::with_limit(alloc, limit)?;
         let slots = free_slots(alloc, &map)?;
         let stocks = no_stocks(alloc, &map)?;

@@ -117,7 +117,7 @@ impl Pool {
         false
     }
 
-    // The same once. Where a writer is busy, or the guard has a further node already, the guard keeps the key.
+    // Tidies the path of a key once. Where a writer is busy, or the guard has a further node already, the guard keeps the key.
     fn tidy_on(&self, guard: &mut Guard, key: u64)
         requires map { guard.old.book ≡ self.now }
         ensures { guard.new ≡ guard.old }
@@ -190,8 +190,8 @@ impl Pool {
         }
     }
 
-    // The same to the first stock of them that no other thread is at. Each begins at a stripe of its own, so that a thread that stops
-    // at a stock keeps a part of them alone from the others.
+    // The guard's further node goes to the first stock of its form that no other thread is at. Each node begins at a stripe of its
+    // own, so that a thread that stops at a stock keeps a part of them alone from the others.
     fn leave_once(&self, guard: &mut Guard)
         requires map { guard.old.book ≡ self.now }
         ensures { guard.new ≡ guard.old }
@@ -202,7 +202,7 @@ impl Pool {
         }
     }
 
-    // The same to the stock in a stripe.
+    // The guard's further node goes to the stock of its form in a stripe.
     fn leave_at(&self, guard: &mut Guard, stripe: usize)
         requires map { guard.old.book ≡ self.now }
         ensures { guard.new ≡ guard.old }
@@ -286,7 +286,7 @@ impl Pool {
         }
     }
 
-    // The same out of the first stock of it that has one. Whether there was one.
+    // A node of a form out of the first stock of it that has one. Whether there was one.
     fn supply_once(&self, guard: &mut Guard, form: NodeType) -> bool
         requires map { guard.old.book ≡ self.now }
         ensures { guard.new ≡ guard.old }
@@ -299,7 +299,7 @@ impl Pool {
         false
     }
 
-    // The same out of the stock in a stripe.
+    // A node of a form out of its stock in a stripe. Whether there was one.
     fn supply_at(&self, guard: &mut Guard, form: NodeType, stripe: usize) -> bool
         requires map { guard.old.book ≡ self.now }
         ensures { guard.new ≡ guard.old }

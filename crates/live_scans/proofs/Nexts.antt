@@ -1,5 +1,5 @@
 -- The way on from a key below a node.
-use Rattle.std.proofs.Common.{◌≡◌, ◌≢◌, ◌⊎◌, ℕ, zero, suc, ◌+◌, ◌-◌, ◌*◌, ◌/◌, ◌%◌, ◌<◌, ◌≤◌, ◌^◌, Bool, true, false, cond, nat_eq, List, [], ◌∷◌, length, take, drop, Option, Some, None, refl, sym, ap, ◌∙◌, subst, inl, inr, arith, eq-eqb, ne_eqb}
+use Rattle.std.proofs.Common.{◌≡◌, ◌≢◌, ◌⊎◌, ℕ, zero, suc, ◌+◌, ◌-◌, ◌*◌, ◌%◌, ◌<◌, ◌≤◌, ◌^◌, Bool, true, cond, nat_eq, List, [], ◌∷◌, length, take, drop, Option, Some, None, refl, sym, ap, ◌∙◌, subst, inl, inr, arith, eq-eqb, ne_eqb}
 use mathlib.Core.Logic.{dite}
 use native.Mathlib.Decide.{ℕ_discrete}
 use Rattle.node_table.specs.TableNode.{TableNode}
@@ -9,7 +9,7 @@ use Rattle.spec_map.specs.Map.{Pairs, lookup}
 use Rattle.word_book.specs.Book.{Book, Name, reads, none_joined}
 use Rattle.share_rule.specs.History.{Entry, IsHistory}
 use Rattle.live_nodes.specs.Nodes.{Content}
-use Rattle.live_nodes.specs.Seats.{Place, Read, read, SeatView, IsIn, Agree}
+use Rattle.live_nodes.specs.Seats.{Read, read, SeatView, IsIn, Agree}
 use Rattle.live_nodes.specs.Plays as Plays
 use Rattle.live_nodes.specs.Plays.{read_of, Checks}
 use Rattle.live_nodes.specs.Calls.{MayCheck}
@@ -18,18 +18,18 @@ use Rattle.live_cells.specs.Words as cells
 use Rattle.live_cells.specs.Head.{IsHead}
 use Rattle.live_encodes.specs.Encodes.{IsBelow, IsWord, Encodes}
 use Rattle.live_order.specs.Order.{HasNearest}
-use Rattle.live_law.specs.Levels.{up, digit, Shape, Spot, spot, name_of, Covers, place_at}
-use Rattle.live_law.specs.Views.{View, Watch, watch, Ask}
+use Rattle.live_law.specs.Levels.{up, digit, Shape, Spot, spot, place_at}
+use Rattle.live_law.specs.Views.{View, watch, Ask}
 use Rattle.live_law.specs.Tree.{IsMap, IsOf, IsOfKind, LearnsNode, LearnsHead, LearnsBelow, Looks, Watches}
 use Rattle.live_law.proofs.Looks.{node_below, HadBelow}
 use Rattle.live_law.proofs.Plans.{digit-low}
 use Rattle.live_calls.specs.Ways.{Names, Sights, HasOpened, IsOpen, Keeps}
 use Rattle.live_calls.specs.Sees.{Sees}
 use Rattle.live_calls.specs.declared.sight.Sight.TheVariants as sights
-use Rattle.live_calls.proofs.Views.{reading_on, reading_on_keeps, learned_keeps, open_read, may_check_open, open_checked, open_missed, may_look, look_missed, look_ends, may_meet, meet_missed, meet_head, IsHeaded, same_named}
+use Rattle.live_calls.proofs.Views.{reading_on, reading_on_keeps, learned_keeps, open_read, may_check_open, open_checked, open_missed, may_look, look_missed, look_ends, may_meet, meet_missed, meet_head, same_named}
 use Rattle.live_calls.proofs.Sights.{sights_kept, covers_by}
 use Rattle.live_calls.proofs.Finds.{keeps_then, names_kept, looked_below}
-use Rattle.live_scans.specs.inner.Moments.{SeesMore, HasUnder, IsRead, LearnsAll, HasNone, IsWithin, IsPassed, ReadsOn}
+use Rattle.live_scans.specs.inner.Moments.{SeesMore, HasUnder, IsRead, LearnsAll, HasNone, IsPassed, ReadsOn}
 use Rattle.live_scans.specs.Scans.{HasRead}
 use Rattle.live_scans.specs.inner.Nexts.{IsNear, HasHead, IsNext, IsOutside, Chooses, Turns}
 use Rattle.live_scans.specs.declared.next.Child.{Child}

@@ -1,5 +1,5 @@
 -- What a node shows of keys that aren't there, and of those of a leaf.
-use Rattle.std.proofs.Common.{◌≡◌, ◌≢◌, ℕ, zero, suc, ◌+◌, ◌-◌, ◌*◌, ◌/◌, ◌%◌, ◌<◌, ◌≤◌, true, List, Option, Some, None, IfSome, refl, sym, ap, ◌∙◌, subst, arith}
+use Rattle.std.proofs.Common.{◌≡◌, ◌≢◌, ℕ, zero, suc, ◌+◌, ◌-◌, ◌*◌, ◌/◌, ◌%◌, ◌<◌, ◌≤◌, true, List, Option, Some, None, refl, sym, ap, ◌∙◌, subst, arith}
 use Rattle.spec_map.specs.Map.{Pairs, lookup, Rises}
 use Rattle.node_table.specs.TableNode.{Child}
 use Rattle.node_table.specs.declared.child.Child.TheVariants.{Payload, Node as Below}
@@ -11,13 +11,13 @@ use Rattle.live_order.specs.Page.{AreListed}
 use Rattle.live_law.specs.Levels.{up, digit, Covers}
 use Rattle.live_law.specs.Views.{View}
 use Rattle.live_law.specs.Tree.{IsOfKind}
-use Rattle.live_law.proofs.Plans.{way-key, joined, up-up, digit-low}
+use Rattle.live_law.proofs.Plans.{way-key, joined, digit-low}
 use Rattle.live_calls.specs.Ways.{Names}
 use Rattle.live_calls.specs.Forks.{IsForked}
 use Rattle.live_scans.specs.inner.Moments.{HasUnder, IsRead, HasNone, IsWithin, IsBeside, ReadsOn}
 use Rattle.live_scans.specs.inner.Forks.{IsAside}
 use Rattle.live_scans.proofs.Uppers.{up-rises}
-use Rattle.live_scans.proofs.Composed.{one_moment, none_read}
+use Rattle.live_scans.proofs.Composed.{one_moment}
 
 abbrev Seen : Type 0
 Seen = SeatView View

@@ -1,5 +1,5 @@
 -- Pages, as guards know them.
-use Rattle.std.proofs.Common.{◌≡◌, ◌≢◌, ◌⊎◌, ℕ, zero, suc, ◌+◌, ◌^◌, ◌<◌, ◌≤◌, nat_eq, true, false, List, [], ◌∷◌, ◌++◌, length, take, get_or, Option, Some, None, Result, Ok, Err, IsErr, OnErr, refl, sym, ap, ◌∙◌, subst, inl, inr, arith}
+use Rattle.std.proofs.Common.{◌≡◌, ◌≢◌, ℕ, zero, suc, ◌+◌, ◌^◌, ◌<◌, ◌≤◌, nat_eq, true, false, List, [], ◌∷◌, ◌++◌, length, take, get_or, Some, None, Result, Ok, Err, IsErr, OnErr, refl, sym, ap, ◌∙◌, subst, inl, inr, arith}
 use Rattle.spec_map.specs.Map.{Pairs, lookup}
 use Rattle.share_rule.specs.History.{Entry, StartsWith, entries_of, IsHistory, IsLegalHistory}
 use Rattle.live_scans.specs.inner.Moments.{SeesMore}
@@ -11,7 +11,7 @@ use Rattle.live_law.specs.Begun.{began}
 use Rattle.live_calls.specs.Calls.{known_of}
 use Rattle.live_calls.specs.Roots.{Begins}
 use Rattle.live_calls.proofs.Ready.{made_call}
-use Rattle.live_scans.specs.Scans.{Moment, HasRead, HasBegun, GaveUp, HaveGivenUp, HasWaited, HasPage, HasNext}
+use Rattle.live_scans.specs.Scans.{Moment, HasRead, HasBegun, GaveUp, HasWaited, HasPage, HasNext}
 use Rattle.live_scans.specs.inner.Steps.{IsPage}
 use Rattle.live_scans.proofs.Composed.{starts_then, nothing_between, narrowed}
 

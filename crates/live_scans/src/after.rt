@@ -124,7 +124,7 @@ pub fn child_after<S, R: Cells<S>>(
     }
 }
 
-// The same of a list. Its place is inside, which is tested rather than proved.
+// The first child from a byte on of a node that is a list. Its place is inside, which is tested rather than proved.
 fn list_after<S, R: Cells<S>>(
     cells: &R,
     form: NodeType,

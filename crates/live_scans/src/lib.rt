@@ -3,7 +3,7 @@
 //! A reader goes down from the root for each leaf. At the check of a node's version word it learns what the map has then at
 //! all keys that begin like the node. So a leaf gives its pairs, and a node above shows which keys aren't there.
 //!
-//! Tested in `test_live_scans`.
+//! Tested in `test_live_faces`.
 #![tactic(auto)]
 
 pub mod after;

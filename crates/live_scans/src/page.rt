@@ -103,7 +103,8 @@ fn try_step<P: RangeEntry>(
     }
 }
 
-// The same in some tries, from the root on after the first. `None` where too many writers came in between.
+// One step from a key on, in some tries, from the root on after the first: a part of a leaf is written into the buffer, or keys are
+// passed that are absent. `None` where too many writers came in between.
 fn read_on<P: RangeEntry>(
     nodes: &Nodes,
     stand: Option<Stand>,

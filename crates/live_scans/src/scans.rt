@@ -55,7 +55,8 @@ pub fn range_inclusive<P: RangeEntry>(
     Ok(step.count)
 }
 
-/// The same without `end`.
+/// Writes the pairs with keys from `start` on and below `end`, ascending, into the buffer, as many as there are or as fit. How
+/// many there are. It takes no memory, and what follows in the buffer is unspecified.
 pub fn range<P: RangeEntry>(
     map: &Congee,
     guard: &mut Guard,

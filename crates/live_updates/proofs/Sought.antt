@@ -1,5 +1,5 @@
 -- What a look-up learns at a node by the law.
-use Rattle.std.proofs.Common.{◌≡◌, ⊎_elim, ℕ, zero, suc, ◌*◌, ◌<◌, ◌≤◌, nat_eq, List, [], ◌∷◌, ◌++◌, length, length-set, set, Option, Some, None, refl, sym, ap, ◌∙◌, subst, arith}
+use Rattle.std.proofs.Common.{◌≡◌, ℕ, zero, suc, ◌*◌, ◌<◌, ◌≤◌, List, [], ◌∷◌, ◌++◌, length, set, Option, Some, None, refl, sym, ap, ◌∙◌, subst, arith}
 use mathlib.Core.Option.{some}
 use mathlib.Core.Logic.{dite}
 use native.Mathlib.Decide.{ℕ_discrete}
@@ -7,19 +7,17 @@ use lib.ListN.{get_elem?}
 use Rattle.node_table.specs.TableNode.{Child}
 use Rattle.node_table.specs.declared.child.Child.TheVariants.{Payload, Node as Below}
 use Rattle.spec_map.specs.Map.{lookup}
-use Rattle.atomic_table.proofs.Lists.{at_set, set_again}
-use Rattle.share_rule.specs.History.{Entry, IsHistory}
+use Rattle.atomic_table.proofs.Lists.{set_again}
+use Rattle.share_rule.specs.History.{Entry}
 use Rattle.share_rule.specs.inner.Rule.{HasSeen}
-use Rattle.live_nodes.proofs.Frames.{below}
 use Rattle.live_nodes.specs.Acts as acts
 use Rattle.live_nodes.specs.Nodes.{Node, node}
 use Rattle.live_nodes.specs.Rule.{PlaceFits}
 use Rattle.live_nodes.specs.Seats.{Each, IsIn, Place, Read}
 use Rattle.live_law.specs.Levels.{up, digit, Shape, Covers, way, Spot, spot}
 use Rattle.live_law.specs.Views.{View, view_of}
-use Rattle.live_law.specs.Tree.{IsUnder, Knows, IsMap}
-use Rattle.live_law.proofs.Histories.{others_alike, sees_all, sees_less}
-use Rattle.live_law.proofs.Looks.{at_leaf, at_inner, same_watched, node_learns}
+use Rattle.live_law.specs.Tree.{IsUnder, IsMap}
+use Rattle.live_law.proofs.Looks.{with_entry, at_leaf, at_inner, same_watched, node_learns}
 use Rattle.live_law.proofs.Plans.{none_there, missed, same_name}
 use Rattle.live_updates.specs.inner.Lookups.{Lookup, asked_by, IsLookup, MayEnd, Seeks, LearnsSeek}
 
@@ -27,26 +25,6 @@ use Rattle.live_updates.specs.inner.Lookups.{Lookup, asked_by, IsLookup, MayEnd,
 module _ (ns : List Node) (vs : List View) (id : ℕ) (p : IsMap ns vs) (v : View) (seat : get_elem? vs id ≡ some v) where
   pub same_view : IsMap ns (set vs id v)
   same_view = subst (IsMap ns) (sym (set_again vs id v seat)) p
-
-  pub with_entry : (e : Entry ℕ) → e.caller ≡ id → IsHistory nat_eq (p.history ++ e ∷ []) p.pairs → IsMap ns (set vs id (view_of (p.history ++ e ∷ []) v.met v.own))
-  with_entry e mine legal =
-      let longer : List (Entry ℕ) = p.history ++ e ∷ [] in
-      let k = p.each_view id v seat in record {
-        plan = p.plan;
-        contents = p.contents;
-        history = longer;
-        pairs = p.pairs;
-        legal = legal;
-        nodes = p.nodes;
-        settled = p.settled;
-        alive = p.alive;
-        tree = p.tree;
-        each_view = λ j u at_j. ⊎_elim
-            (λ t. subst (λ (x : ℕ × View). Knows p.plan ns p.contents longer x.0 x.1) (λ i. (sym t.0 i, t.1 i)) record { seen = sees_all id longer; met = k.met; own = k.own; watched = tt })
-            (λ t. let o = p.each_view j u t.1 in record { seen = sees_less j p.history u.seen e (λ same. t.0 (same ∙ mine)) o.seen; met = o.met; own = o.own; watched = o.watched })
-            (at_set vs id j (view_of longer v.met v.own) u at_j);
-        unborn = λ c l. let m : length vs ≤ c = omega (arith, l, length-set vs id (view_of longer v.met v.own)) in others_alike c p.history e (λ same. absurd (let low = below vs id v seat in omega (arith, low, same, mine, m))) ∙ p.unborn c m;
-      }
 
 -- A seat's call may end by a value that is the key's.
 module _ (ns : List Node) (vs : List View) (id : ℕ) (p : IsMap ns vs) (v : View) (seat : get_elem? vs id ≡ some v) (q : Lookup) (is : IsLookup q) (by : q.caller ≡ id) (found : Option ℕ) (has : lookup p.pairs q.key ≡ found) where
@@ -59,7 +37,7 @@ module _ (ns : List Node) (vs : List View) (id : ℕ) (p : IsMap ns vs) (v : Vie
       let k = p.each_view id v seat in
       let legal = is.legal found x e p.history p.pairs p.legal has in (
         view_of (p.history ++ x ∷ []) v.met v.own,
-        with_entry ns vs id p v seat x (is.by found x e ∙ by) legal,
+        with_entry ns vs id p v seat x (is.by found x e ∙ by) legal v.met k.met,
         record {
           is = refl;
           answers = record { whole = p.history; is = refl; fits = subst (λ (c : ℕ). HasSeen p.history c v.seen) (sym by) k.seen; legal = (p.pairs, legal) };

@@ -247,7 +247,8 @@ pub fn update_here<U: Updates>(
     }
 }
 
-/// The same. A leaf without keys is taken out of the map, and one that is left with few goes into the next smaller form.
+/// Gives a key of a leaf what it is to have, if it has what is expected. Otherwise nothing is written. A leaf without keys is taken
+/// out of the map, and one that is left with few goes into the next smaller form.
 pub fn exchange_here<U: Updates>(
     nodes: &Nodes,
     name: u64,

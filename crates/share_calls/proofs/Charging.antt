@@ -2,6 +2,7 @@
 use Rattle.std.proofs.Common.{◌≡◌, ℕ, ◌+◌, List, [], ◌∷◌, length, map, refl, sym, ap, subst, ◌∙◌}
 use Rattle.std.proofs.lemmas.List.{length-map}
 use Rattle.node_table.specs.Charge.{BudgetView}
+use Rattle.share_calls.specs.Charged.{IsCharged}
 use Rattle.share_moments.specs.declared.state.State.{State}
 use Rattle.share_rule.specs.Known.{Known, MadeCall}
 use Rattle.share_visits.specs.Charged.{AreCharges, IsChargeOfAll, sum_of}
@@ -26,8 +27,8 @@ module _ (f : State → TreeView ℕ BudgetView) where
   pub charge_of : (maps : List State) (bytes : ℕ) → IsChargeOfAll (λ s. IsChargeOf (f s)) maps bytes → IsChargeOfAll IsChargeOf (map f maps) bytes
   charge_of maps bytes h = record { sizes = h.sizes; each = charges_of maps h.sizes h.each; sum = h.sum }
 
-pub trees_of : (count : ℕ) (k k' n : Known ℕ) (bytes : ℕ) (maps : List State) → k' ≡ k → length maps ≡ count → KnowsBy (returned counting (counted (sum_of (λ s. length s.map.pairs) maps)) ∷ []) k n → IsChargeOfAll (λ (s : State). IsChargeOf s.map) maps bytes
-    → (trees : List (TreeView ℕ BudgetView)) × (length trees ≡ count) × MadeCall same_number k' (returned counting (counted (sum_of (λ (tree : TreeView ℕ BudgetView). length tree.pairs) trees))) n × IsChargeOfAll IsChargeOf trees bytes
-trees_of count k k' n bytes maps is many knows charge =
+pub trees_of : (k k' n : Known ℕ) (bytes : ℕ) (maps : List State) → k' ≡ k → length maps ≡ k'.table.slots → KnowsBy (returned counting (counted (sum_of (λ s. length s.map.pairs) maps)) ∷ []) k n → IsChargeOfAll (λ (s : State). IsChargeOf s.map) maps bytes
+    → IsCharged k' bytes n
+trees_of k k' n bytes maps is many knows charge =
     let tree : State → TreeView ℕ BudgetView = λ s. s.map in
     (map tree maps, length-map maps tree ∙ many, subst (λ (z : ℕ × Known ℕ). MadeCall same_number z.1 (returned counting (counted z.0)) n) (λ i. (sums_of tree maps i, sym is i)) knows.1, charge_of tree maps bytes charge)

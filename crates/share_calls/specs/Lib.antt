@@ -1,2 +1,3 @@
+pub mod Charged
 pub mod Computed
 pub mod inner

@@ -3,6 +3,7 @@
 //! Tested in `tools/c-library`.
 
 ghost use Rattle.std.specs.Prelude.{◌≡◌, IfOk, OnErr, OnOk, unwrap_or};
+ghost use Rattle.node_table.specs.Charge.{budget_charge};
 ghost use Rattle.spec_map.specs.Map.{lookup, put};
 ghost use Rattle.spec_olc.specs.Runs.{same_number};
 ghost use Rattle.share_rule.specs.Known.{MadeCall};
@@ -72,6 +73,7 @@ impl Work<u64, Part<State>, ()> for GetOrInsert {
 }
 
 // Stores the sum of the key's value and the number, or the number at a new key. Returns the previous value.
+#[tactic(auto, using(share_moments::proofs::Limits::same_limit))]
 fn add_to(
     map: &mut Congee<u64, u64, Budget>,
     key: u64,
@@ -81,6 +83,7 @@ fn add_to(
     ensures ok { OnOk result
         (map.new.pairs ≡ put map.old.pairs key (sum_with (lookup map.old.pairs key) number)) }
     ensures err { OnErr result (map.new.pairs ≡ map.old.pairs) }
+    ensures limit { (budget_charge map.new.budget).limit ≡ (budget_charge map.old.budget).limit }
 {
     let mut sum = |current: Option<u64>| -> u64 {
         match current {
@@ -92,6 +95,7 @@ fn add_to(
 }
 
 // Stores the value at a new key, and the current value again at a present one. Returns the previous value.
+#[tactic(auto, using(share_moments::proofs::Limits::same_limit))]
 fn put_if_absent(
     map: &mut Congee<u64, u64, Budget>,
     key: u64,
@@ -101,6 +105,7 @@ fn put_if_absent(
     ensures ok { OnOk result
         (map.new.pairs ≡ put map.old.pairs key (unwrap_or (lookup map.old.pairs key) value)) }
     ensures err { OnErr result (map.new.pairs ≡ map.old.pairs) }
+    ensures limit { (budget_charge map.new.budget).limit ≡ (budget_charge map.old.budget).limit }
 {
     let mut keep = |current: Option<u64>| -> u64 { current.unwrap_or(value) };
     map.compute_or_insert(key, &mut keep)

@@ -36,7 +36,7 @@ pub struct Guard {
 }
 
 impl Model for Guard {
-    ghost use Rattle.std.specs.Prelude.{◌≡◌, ℕ};
+    ghost use Rattle.std.specs.Prelude.{◌≡◌, ◌*◌, ◌<◌, ◌^◌, ℕ};
     ghost use Rattle.std.specs.Arc.{arc_value};
     ghost use Rattle.spec_olc.specs.Runs.{same_number};
     ghost use Rattle.share_rule.specs.History.{IsLegalHistory};
@@ -48,8 +48,9 @@ impl Model for Guard {
 
     ghost view = { λ g. known_of g.seat.table_id g.seat.me };
 
-    ghost invariant = { λ g. (g.seat.table_id ≡ arc_value g.lock) × IsCount g.seat.table_id.slots
-        × IsIdle g.seat.me × IsLegalHistory same_number (seen_of g.seat.me.0) };
+    ghost invariant = { λ g. (g.seat.table_id ≡ (arc_value g.lock).table) × IsIdle g.seat.me
+        × IsCount g.seat.table_id.slots × IsLegalHistory same_number (seen_of g.seat.me.0)
+        × ((arc_value g.lock).table.slots * (arc_value g.lock).limit < 2 ^ 64) };
 }
 
 impl Guard {

@@ -2,15 +2,12 @@
 //!
 //! Tested in `tools/c-library`.
 
-ghost use Rattle.std.specs.Prelude.{◌≡◌, ◌≢◌, ℕ, List, Err, IfOk, OnErr, OnOk, length};
-ghost use Rattle.node_table.specs.Charge.{BudgetView};
+ghost use Rattle.std.specs.Prelude.{◌≡◌, ◌≢◌, ◌≤◌, ℕ, Err, IfOk, OnErr, OnOk};
 ghost use Rattle.spec_map.specs.Call.{count as count_call, counted, is_empty as is_empty_call, tested};
 ghost use Rattle.spec_map.specs.Map.{Pairs};
 ghost use Rattle.spec_olc.specs.Runs.{same_number};
-ghost use Rattle.tree_edit.specs.Tree.{TreeView};
-ghost use Rattle.tree_edit.specs.TreeCalls.{IsChargeOf};
+ghost use Rattle.share_calls.specs.Charged.{IsCharged};
 ghost use Rattle.share_rule.specs.Known.{MadeCall, MadeCalls};
-ghost use Rattle.share_visits.specs.Charged.{IsChargeOfAll, sum_of};
 ghost use Rattle.share_works.specs.Made.{returned, clearing};
 
 use crate::guard::{Guard, Missed};
@@ -45,21 +42,18 @@ impl Guard {
         }
     }
 
-    /// The sum in bytes of the stated sizes of the map's nodes, which its limit is charged for. It is of the trees of one
-    /// moment, one for each shard, whose pairs were counted then. It saturates at `u128::MAX`.
-    pub fn charged(&mut self) -> Result<u128, Missed>
-        ensures made { IfOk result (λ bytes. (trees : List (TreeView ℕ BudgetView))
-            × (length trees ≡ self.old.table.slots)
-            × MadeCall same_number self.old
-            (returned count_call (counted (sum_of (λ tree. length tree.pairs) trees))) self.new
-            × IsChargeOfAll IsChargeOf trees bytes) }
+    /// The sum in bytes of the stated sizes of the map's nodes, and the limit, which the sum is within. The sum is of the
+    /// trees of one moment, one for each shard, whose pairs were counted then.
+    pub fn usage(&mut self) -> Result<(u128, u64), Missed>
+        ensures made { IfOk result (λ usage. IsCharged self.old usage.0 self.new) }
+        ensures within { IfOk result (λ usage. usage.0 ≤ usage.1) }
         ensures missed { OnErr result (self.new ≡ self.old) }
         ensures free { result ≢ Err Missed.Oom }
     {
         let Some(bytes) = hold_charged(&self.lock, &mut self.seat) else {
             return Err(Missed::Busy);
         };
-        Ok(bytes)
+        Ok((bytes, self.lock.shards() as u64 * self.lock.limit()))
     }
 
     /// Removes all pairs. Of the nodes the root stays.

@@ -2,7 +2,7 @@
 //!
 //! Tested in `tools/c-library`.
 
-ghost use Rattle.std.specs.Prelude.{◌≡◌, ℕ, [], ◌∷◌, List, None, IfSome, IsTrue, IsFalse, length};
+ghost use Rattle.std.specs.Prelude.{◌≡◌, ◌≤◌, ◌*◌, ℕ, [], ◌∷◌, List, None, IfSome, IsTrue, IsFalse, length};
 ghost use Rattle.share_shards.specs.inner.Steps.{HeldBy, IsIdle};
 ghost use Rattle.share_visits.specs.Charged.{IsChargeOfAll, sum_of};
 ghost use Rattle.share_visits.specs.Near.{near_of};
@@ -23,8 +23,8 @@ use std::marker::Brand;
 
 /// The pair there. `None` if a lock stays taken.
 pub fn hold_nearest(lock: &MapLock, seat: &mut MapSeat, near: Near) -> Option<Option<(u64, u64)>>
-    requires table { seat.old.table_id ≡ lock.now }
-    requires shards { IsCount lock.now.slots }
+    requires table { seat.old.table_id ≡ lock.now.table }
+    requires shards { IsCount lock.now.table.slots }
     requires idle { IsIdle seat.old.me }
     ensures table { seat.new.table_id ≡ seat.old.table_id }
     ensures made { IfSome result (λ pair. HeldBy same_number
@@ -43,8 +43,8 @@ pub fn hold_nearest(lock: &MapLock, seat: &mut MapSeat, near: Near) -> Option<Op
 
 /// Removes the pair there, and returns it. `None` if a lock stays taken.
 pub fn hold_pop(lock: &MapLock, seat: &mut MapSeat, near: Near) -> Option<Option<(u64, u64)>>
-    requires table { seat.old.table_id ≡ lock.now }
-    requires shards { IsCount lock.now.slots }
+    requires table { seat.old.table_id ≡ lock.now.table }
+    requires shards { IsCount lock.now.table.slots }
     requires idle { IsIdle seat.old.me }
     ensures table { seat.new.table_id ≡ seat.old.table_id }
     ensures made { IfSome result (λ pair. HeldBy same_number
@@ -63,8 +63,8 @@ pub fn hold_pop(lock: &MapLock, seat: &mut MapSeat, near: Near) -> Option<Option
 
 /// How many pairs there are. `None` if a lock stays taken.
 pub fn hold_count(lock: &MapLock, seat: &mut MapSeat) -> Option<u128>
-    requires table { seat.old.table_id ≡ lock.now }
-    requires shards { IsCount lock.now.slots }
+    requires table { seat.old.table_id ≡ lock.now.table }
+    requires shards { IsCount lock.now.table.slots }
     requires idle { IsIdle seat.old.me }
     ensures table { seat.new.table_id ≡ seat.old.table_id }
     ensures made { IfSome result (λ n. HeldBy same_number
@@ -83,8 +83,8 @@ pub fn hold_count(lock: &MapLock, seat: &mut MapSeat) -> Option<u128>
 
 /// Whether there is no pair. `None` if a lock stays taken.
 pub fn hold_is_empty(lock: &MapLock, seat: &mut MapSeat) -> Option<bool>
-    requires table { seat.old.table_id ≡ lock.now }
-    requires shards { IsCount lock.now.slots }
+    requires table { seat.old.table_id ≡ lock.now.table }
+    requires shards { IsCount lock.now.table.slots }
     requires idle { IsIdle seat.old.me }
     ensures table { seat.new.table_id ≡ seat.old.table_id }
     ensures made { IfSome result (λ empty. HeldBy same_number
@@ -100,16 +100,17 @@ pub fn hold_is_empty(lock: &MapLock, seat: &mut MapSeat) -> Option<bool>
     Some(empty)
 }
 
-/// What all shards' maps are charged. `None` if a lock stays taken.
+/// What all shards' maps are charged, which is within their limits. `None` if a lock stays taken.
 pub fn hold_charged(lock: &MapLock, seat: &mut MapSeat) -> Option<u128>
-    requires table { seat.old.table_id ≡ lock.now }
-    requires shards { IsCount lock.now.slots }
+    requires table { seat.old.table_id ≡ lock.now.table }
+    requires shards { IsCount lock.now.table.slots }
     requires idle { IsIdle seat.old.me }
     ensures table { seat.new.table_id ≡ seat.old.table_id }
     ensures made { IfSome result (λ bytes. (maps : List State) × (length maps ≡ seat.old.table_id.slots)
         × HeldBy same_number (returned count (counted (sum_of (λ s. length s.map.pairs) maps)) ∷ [])
         seat.old.me seat.new.me
         × IsChargeOfAll (λ (s : State). IsChargeOf s.map) maps bytes) }
+    ensures within { IfSome result (λ bytes. bytes ≤ lock.now.table.slots * lock.now.limit) }
     ensures missed { result ≡ None → seat.new.me ≡ seat.old.me }
     ensures idle { IsIdle seat.new.me }
 {
@@ -124,8 +125,8 @@ pub fn hold_charged(lock: &MapLock, seat: &mut MapSeat) -> Option<u128>
 
 /// Removes all pairs. `false` if a lock stays taken.
 pub fn hold_clear(lock: &MapLock, seat: &mut MapSeat) -> bool
-    requires table { seat.old.table_id ≡ lock.now }
-    requires shards { IsCount lock.now.slots }
+    requires table { seat.old.table_id ≡ lock.now.table }
+    requires shards { IsCount lock.now.table.slots }
     requires idle { IsIdle seat.old.me }
     ensures table { seat.new.table_id ≡ seat.old.table_id }
     ensures made { IsTrue result → (pairs : Pairs ℕ)

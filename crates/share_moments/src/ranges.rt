@@ -25,8 +25,8 @@ pub fn hold_range<E: RangeEntry>(
     end: u64,
     buffer: &mut [E],
 ) -> Option<usize>
-    requires table { seat.old.table_id ≡ lock.now }
-    requires shards { IsCount lock.now.slots }
+    requires table { seat.old.table_id ≡ lock.now.table }
+    requires shards { IsCount lock.now.table.slots }
     requires idle { IsIdle seat.old.me }
     ensures table { seat.new.table_id ≡ seat.old.table_id }
     ensures made { IfSome result (λ written. (all : Pairs ℕ) × HeldBy same_number
@@ -53,8 +53,8 @@ pub fn hold_range_inclusive<E: RangeEntry>(
     last: u64,
     buffer: &mut [E],
 ) -> Option<usize>
-    requires table { seat.old.table_id ≡ lock.now }
-    requires shards { IsCount lock.now.slots }
+    requires table { seat.old.table_id ≡ lock.now.table }
+    requires shards { IsCount lock.now.table.slots }
     requires idle { IsIdle seat.old.me }
     ensures table { seat.new.table_id ≡ seat.old.table_id }
     ensures made { IfSome result (λ written. (all : Pairs ℕ) × HeldBy same_number
@@ -82,8 +82,8 @@ pub fn hold_range_descending<E: RangeEntry>(
     last: u64,
     buffer: &mut [E],
 ) -> Option<usize>
-    requires table { seat.old.table_id ≡ lock.now }
-    requires shards { IsCount lock.now.slots }
+    requires table { seat.old.table_id ≡ lock.now.table }
+    requires shards { IsCount lock.now.table.slots }
     requires idle { IsIdle seat.old.me }
     ensures table { seat.new.table_id ≡ seat.old.table_id }
     ensures made { IfSome result (λ written. (all : Pairs ℕ) × HeldBy same_number

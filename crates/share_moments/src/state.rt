@@ -18,11 +18,14 @@ pub struct State {
 }
 
 impl MapShard for State {
+    ghost use Rattle.node_table.specs.Charge.{budget_charge};
     ghost use Rattle.tree_edit.specs.TreeCalls.{IsChargeOf};
 
     ghost pairs = { λ s. s.map.pairs };
 
     ghost charges = { λ s. IsChargeOf s.map };
+
+    ghost limit = { λ s. (budget_charge s.map.budget).limit };
 
     #[tactic(auto, using(crate::proofs::Moments::few_pairs))]
     fn pair_count(&self) -> u128 {
@@ -41,14 +44,19 @@ impl MapShard for State {
         }
     }
 
+    #[tactic(auto, using(crate::proofs::Limits::within))]
     fn charge(&self) -> u128 {
+        // For the checker: that the nodes' sizes are within what the budget is charged.
+        let _ = self.map.allocator();
         self.map.charged()
     }
 
+    #[tactic(auto, using(crate::proofs::Limits::same_limit))]
     fn remove_key(&mut self, key: u64) {
         let _ = self.map.remove(&key);
     }
 
+    #[tactic(auto, using(crate::proofs::Limits::same_limit))]
     fn clear(&mut self) {
         self.map.clear();
     }

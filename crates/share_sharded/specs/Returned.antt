@@ -1,17 +1,13 @@
 -- WHAT A CALL RETURNS, and the operations with which the history ends that its guard has then seen. Keys and values are
 -- written as numbers, and values are read back from them.
 use Rattle.std.specs.Option.{option_map}
-use Rattle.std.specs.Prelude.{◌≡◌, ℕ, List, length, Option, Result, Ok, Err}
-use Rattle.node_table.specs.Charge.{BudgetView}
+use Rattle.std.specs.Prelude.{◌≡◌, ℕ, Option, Result, Ok, Err}
 use Rattle.share_calls.specs.Computed.{computed_from}
 use Rattle.share_rule.specs.Known.{Known, MadeCall, MadeCalls}
-use Rattle.share_visits.specs.Charged.{IsChargeOfAll, sum_of}
 use Rattle.share_works.specs.Ends.{popping}
 use Rattle.share_works.specs.Made.{returned}
-use Rattle.spec_map.specs.Call.{Call, Near, compare_exchange, count, counted, exchanged, found, nearest, old_value}
+use Rattle.spec_map.specs.Call.{Call, Near, compare_exchange, exchanged, found, nearest, old_value}
 use Rattle.spec_olc.specs.Runs.{same_number}
-use Rattle.tree_edit.specs.Tree.{TreeView}
-use Rattle.tree_edit.specs.TreeCalls.{IsChargeOf}
 
 -- A CALL, by a guard that knew k
 module _ {V : Type 0} (of_number : ℕ → V) (k : Known ℕ) where
@@ -47,10 +43,3 @@ module _ {K V : Type 0} (key_of : ℕ → K) (value_of : ℕ → V) (k : Known �
   ReturnsPopped near pair n =
       (numbers : Option (ℕ × ℕ)) × (pair ≡ option_map (λ (both : ℕ × ℕ). (key_of both.0, value_of both.1)) numbers)
       × MadeCalls same_number k (popping near numbers) n
-
--- the call returned what the trees of one moment are charged, one for each shard. Their pairs were counted then
-abbrev pub ReturnsCharged : Known ℕ → ℕ → Known ℕ → Type 0
-ReturnsCharged k bytes n =
-    (trees : List (TreeView ℕ BudgetView)) × (length trees ≡ k.table.slots)
-    × MadeCall same_number k (returned count (counted (sum_of (λ (tree : TreeView ℕ BudgetView). length tree.pairs) trees))) n
-    × IsChargeOfAll IsChargeOf trees bytes

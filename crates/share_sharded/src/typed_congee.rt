@@ -2,7 +2,7 @@
 //!
 //! Tested in `test_share_sharded`.
 
-ghost use Rattle.std.specs.Prelude.{◌≡◌, ◌≢◌, [], IfOk, OnErr};
+ghost use Rattle.std.specs.Prelude.{◌≡◌, ◌≢◌, ◌/◌, [], IfOk, OnErr};
 ghost use Rattle.std.specs.Option.{option_map};
 ghost use Rattle.spec_map.specs.Call.{get, insert, remove};
 ghost use Rattle.spec_olc.specs.Runs.{same_number};
@@ -83,9 +83,9 @@ pub enum Shards {
 /// Each call has a form that gives up where a lock stays taken (`try_get` and the like, with `Busy`), and one that pauses
 /// and goes on. That this one returns isn't claimed.
 ///
-/// Contracts see which map it is, with the number of its shards, `slots`. Each call is made by a guard of the map. What the
-/// guard has seen after a call is one legal history of the map: it begins with what the guard had seen before, and ends
-/// with the call and its reply.
+/// Contracts see which map it is, with the number of its shards, `slots`, and the limit of each shard in bytes. Each call is
+/// made by a guard of the map. What the guard has seen after a call is one legal history of the map: it begins with what
+/// the guard had seen before, and ends with the call and its reply.
 #[derive(Drop)]
 pub struct Congee<K: Word, V: Word> {
     numbers: Map,
@@ -93,17 +93,18 @@ pub struct Congee<K: Word, V: Word> {
 }
 
 impl<K: Word, V: Word> Model for Congee<K, V> {
-    ghost use Rattle.atomic_table.specs.Seated.{TableId, table_id_coded};
+    ghost use Rattle.share_shards.specs.Lock.{LockView, lock_view_coded};
 
-    ghost Value = { TableId };
+    ghost Value = { LockView };
 
-    ghost coded = { table_id_coded };
+    ghost coded = { lock_view_coded };
 
     ghost view = { λ m. m.numbers };
 }
 
 fn empty(alloc: Global, shards: Shards, limit: u64) -> Result<Map, OOMError>
-    ensures { IfOk result (λ map. map.slots ≡ count_of shards) }
+    ensures shards { IfOk result (λ map. map.table.slots ≡ count_of shards) }
+    ensures limit { IfOk result (λ map. map.limit ≡ limit / count_of shards) }
 {
     match shards {
         Shards::One => Map::new(alloc, limit),
@@ -140,7 +141,8 @@ impl<K: Word, V: Word> Congee<K, V> {
     /// An empty map. The stated sizes of the map's nodes are charged to a limit in bytes. Of 64 shards, each has a 64th of
     /// the limit, rounded down. `OOMError` if memory is missing, or a shard's limit is below its root's 2,104 bytes.
     pub fn new(alloc: Global, shards: Shards, limit: u64) -> Result<Self, OOMError>
-        ensures { IfOk result (λ map. map.slots ≡ count_of shards) }
+        ensures shards { IfOk result (λ map. map.table.slots ≡ count_of shards) }
+        ensures limit { IfOk result (λ map. map.limit ≡ limit / count_of shards) }
     {
         Ok(Congee {
             numbers: empty(alloc, shards, limit)?,
@@ -151,7 +153,7 @@ impl<K: Word, V: Word> Congee<K, V> {
     /// A guard that has seen nothing. It waits for nobody and takes no memory. The map's nodes live as long as it.
     /// `OOMError` where there are 2 to the 63 guards.
     pub fn pin(&self) -> Result<Guard, OOMError>
-        ensures { IfOk result (λ guard. (guard.table ≡ self.now) × (guard.seen ≡ [])) }
+        ensures { IfOk result (λ guard. (guard.table ≡ self.now.table) × (guard.seen ≡ [])) }
     {
         self.numbers.pin()
     }
@@ -163,7 +165,7 @@ impl<K: Word, V: Word> Congee<K, V> {
 
     /// The current value of the key, read back from its number.
     pub fn try_get(&self, guard: &mut Guard, key: &K) -> Result<Option<V>, Busy>
-        requires map { guard.old.table ≡ self.now }
+        requires map { guard.old.table ≡ self.now.table }
         ensures map { guard.new.table ≡ guard.old.table }
         ensures made { IfOk result (λ value.
             ReturnsOld V.of_number guard.old (get (K.number key.now)) value guard.new) }
@@ -177,7 +179,7 @@ impl<K: Word, V: Word> Congee<K, V> {
 
     /// The same, which pauses where `try_get` is busy, and goes on.
     pub fn get<R: Wait>(&self, rt: &R, guard: &mut Guard, key: &K) -> Option<V>
-        requires map { guard.old.table ≡ self.now }
+        requires map { guard.old.table ≡ self.now.table }
         ensures map { guard.new.table ≡ guard.old.table }
         ensures made { ReturnsOld V.of_number guard.old (get (K.number key.now)) result guard.new }
     {
@@ -187,7 +189,7 @@ impl<K: Word, V: Word> Congee<K, V> {
     /// Stores a value at the key, and returns the previous one, read back from its number. `OutOfMemory` comes only for a
     /// new key.
     pub fn try_insert(&self, guard: &mut Guard, key: K, value: V) -> Result<Option<V>, Refusal>
-        requires map { guard.old.table ≡ self.now }
+        requires map { guard.old.table ≡ self.now.table }
         ensures map { guard.new.table ≡ guard.old.table }
         ensures made { IfOk result (λ before. ReturnsOld V.of_number guard.old
             (insert (K.number key) (V.number value)) before guard.new) }
@@ -208,7 +210,7 @@ impl<K: Word, V: Word> Congee<K, V> {
         key: K,
         value: V,
     ) -> Result<Option<V>, OOMError>
-        requires map { guard.old.table ≡ self.now }
+        requires map { guard.old.table ≡ self.now.table }
         ensures map { guard.new.table ≡ guard.old.table }
         ensures made { IfOk result (λ before. ReturnsOld V.of_number guard.old
             (insert (K.number key) (V.number value)) before guard.new) }
@@ -219,7 +221,7 @@ impl<K: Word, V: Word> Congee<K, V> {
 
     /// Removes the key, and returns the previous value, read back from its number.
     pub fn try_remove(&self, guard: &mut Guard, key: &K) -> Result<Option<V>, Busy>
-        requires map { guard.old.table ≡ self.now }
+        requires map { guard.old.table ≡ self.now.table }
         ensures map { guard.new.table ≡ guard.old.table }
         ensures made { IfOk result (λ before.
             ReturnsOld V.of_number guard.old (remove (K.number key.now)) before guard.new) }
@@ -233,7 +235,7 @@ impl<K: Word, V: Word> Congee<K, V> {
 
     /// The same, which pauses where `try_remove` is busy, and goes on.
     pub fn remove<R: Wait>(&self, rt: &R, guard: &mut Guard, key: &K) -> Option<V>
-        requires map { guard.old.table ≡ self.now }
+        requires map { guard.old.table ≡ self.now.table }
         ensures map { guard.new.table ≡ guard.old.table }
         ensures made { ReturnsOld V.of_number guard.old (remove (K.number key.now)) result
             guard.new }
@@ -251,7 +253,7 @@ impl<K: Word, V: Word> Congee<K, V> {
         old: &V,
         new: Option<V>,
     ) -> Result<Result<Option<V>, Option<V>>, Busy>
-        requires map { guard.old.table ≡ self.now }
+        requires map { guard.old.table ≡ self.now.table }
         ensures map { guard.new.table ≡ guard.old.table }
         ensures made { IfOk result (λ answer. ReturnsExchanged V.of_number guard.old V.number
             (K.number key.now) (V.number old.now) new answer guard.new) }
@@ -273,7 +275,7 @@ impl<K: Word, V: Word> Congee<K, V> {
         old: &V,
         new: Option<V>,
     ) -> Result<Option<V>, Option<V>>
-        requires map { guard.old.table ≡ self.now }
+        requires map { guard.old.table ≡ self.now.table }
         ensures map { guard.new.table ≡ guard.old.table }
         ensures made { ReturnsExchanged V.of_number guard.old V.number
             (K.number key.now) (V.number old.now) new result guard.new }

@@ -1,7 +1,7 @@
 -- What visits of all shards that are held come to.
-use Rattle.std.proofs.Common.{◌≡◌, ◌≢◌, ℕ, ◌+◌, ◌<◌, Bool, true, false, true≢false, cond, List, [], ◌∷◌, ◌++◌, reverse, append-nil, length, refl, sym, ap, ◌∙◌, subst, inl, inr, arith, eqb, eq-eqb, ne_eqb}
+use Rattle.std.proofs.Common.{◌≡◌, ◌≢◌, ℕ, ◌+◌, ◌*◌, ◌<◌, ◌≤◌, Bool, true, false, true≢false, cond, List, [], ◌∷◌, ◌++◌, reverse, append-nil, length, refl, sym, ap, ◌∙◌, subst, inl, inr, arith, eqb, eq-eqb, ne_eqb, suc-mul}
 use Rattle.std.proofs.lemmas.Bool.{cases_eq, cases_Bool, eqb-true, or_cases, or_from, or_left, or_right}
-use Rattle.std.specs.Prelude.{Option, Some, None, ◌||◌, ◌⊎◌}
+use Rattle.std.specs.Prelude.{Option, Some, None, ◌||◌}
 use Rattle.atomic_table.specs.Table.{Me}
 use Rattle.share_parts.specs.Nearest.{nearer}
 use Rattle.share_parts.specs.Parts.{kept, Ascends, AreWithin}
@@ -82,6 +82,22 @@ tallied {V} {E} {S} limit does tally size each v w before after (h ∷ held) (k 
     omega (arith, first, rest)
 tallied limit does tally size each v w before after [] (k ∷ values) h small = absurd h
 tallied limit does tally size each v w before after (h ∷ held) [] t small = absurd t
+
+-- an amount to which each visit adds no more than this
+pub bounded : {V E S : Type 0} (most : ℕ) (does : V → List E → ℕ → S → V → List E → S → Type 0) (amount : V → ℕ) (Fits : S → Type 0)
+    → ((v : V) (b : List E) (i : ℕ) (x : S) (w : V) (a : List E) (y : S) → does v b i x w a y → Fits x → amount w ≤ amount v + most)
+    → (v w : V) (before after : List E) (held values : List (ℕ × S)) → AreDistinct (numbers held) → ((i : ℕ) (x : S) → lookup held i ≡ Some x → Fits x)
+    → Visited does v before held w after values → amount w ≤ amount v + length held * most
+bounded most does amount Fits each v w before after [] [] distinct fit h = let is = ap amount h.0 in omega (arith, is)
+bounded {V} {E} {S} most does amount Fits each v w before after (h ∷ held) (k ∷ values) distinct fit t =
+    let first : amount t.1 ≤ amount v + most = each v before h.0 h.1 t.1 t.2 k.1 t.3 (fit h.0 h.1 (at_here h.0 h.0 h.1 held refl)) in
+    let rest : amount w ≤ amount t.1 + length held * most = bounded most does amount Fits each t.1 w t.2 after held values distinct.1
+    (λ i x e. fit i x (at_next h.0 i h.1 held (λ at. true≢false (sym (found_in held i x e) ∙ (ap (λ (n : ℕ). is_in (numbers held) n) (sym at) ∙ distinct.0))) ∙ e)) t.4
+    in
+    let more : length (h ∷ held) * most ≡ length held * most + most = suc-mul (length held) most in
+    omega (arith, first, rest, more)
+bounded most does amount Fits each v w before after [] (k ∷ values) distinct fit h = absurd h
+bounded most does amount Fits each v w before after (h ∷ held) [] distinct fit t = absurd t
 
 module _ {T : Type 0} (shard : ℕ → ℕ) where
   none_of : (m : Pairs T) → length (kept (keys_of shard []) m) ≡ 0

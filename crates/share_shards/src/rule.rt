@@ -11,8 +11,8 @@ pub trait Sharded<T> {
 
     ghost same: { T → T → Bool };
 
-    // What it contains.
-    ghost content: { Self → Pairs T → Type 0 };
+    // What it contains, where this is the limit of each shard.
+    ghost content: { ℕ → Self → Pairs T → Type 0 };
 
     // The shard of a key, where there are so many of them.
     ghost shard: { ℕ → ℕ → ℕ };
@@ -23,22 +23,35 @@ pub struct Law<T, S> {
     of: PhantomData<(T, S)>,
 }
 
-impl<T, S: Sharded<T>> TableRule<Option<S>, View<T, S>, ()> for Law<T, S> {
+impl<T, S: Sharded<T>> TableRule<Option<S>, View<T, S>, u64> for Law<T, S> {
     ghost use Rattle.share_shards.specs.inner.Rule.{TableRule};
     ghost use Rattle.share_shards.specs.inner.SeatView.{Blank};
 
-    ghost holds = { λ _. TableRule S.same S.content S.shard };
+    ghost holds = { λ limit. TableRule S.same (S.content limit) S.shard };
 
     ghost first = { λ _. Blank };
 }
 
-/// A try: the lock of a shard was won, or nothing changed.
-pub struct Try;
+/// The limit of each shard, as the rule of a step names it.
+pub trait Limit {
+    ghost use Rattle.std.specs.Prelude.{ℕ};
 
-impl<T, S: Sharded<T>> Play<Option<S>, View<T, S>> for Try {
+    ghost limit: { ℕ };
+}
+
+impl Limit for Brand {
+    ghost limit = { 0 };
+}
+
+/// A try: the lock of a shard was won, or nothing changed.
+pub struct Try<B> {
+    of: PhantomData<B>,
+}
+
+impl<T, S: Sharded<T>, B: Limit> Play<Option<S>, View<T, S>> for Try<B> {
     ghost use Rattle.share_shards.specs.inner.Steps.{Tries};
 
-    ghost then = { λ step. Tries S.content (S.shard step.slots) step };
+    ghost then = { λ step. Tries (S.content B.limit) (S.shard step.slots) step };
 }
 
 /// What a hold has done: the operations that were made in it, in order.
@@ -56,14 +69,15 @@ impl<T> Done<T> for Brand {
 }
 
 /// The operations of a hold are appended to the history.
-pub struct Append<D> {
-    of: PhantomData<D>,
+pub struct Append<D, B> {
+    of: PhantomData<(D, B)>,
 }
 
-impl<T, S: Sharded<T>, D: Done<T>> Play<Option<S>, View<T, S>> for Append<D> {
+impl<T, S: Sharded<T>, D: Done<T>, B: Limit> Play<Option<S>, View<T, S>> for Append<D, B> {
     ghost use Rattle.share_shards.specs.inner.Steps.{Appends};
 
-    ghost then = { λ step. Appends S.same S.content (S.shard step.slots) D.operations step };
+    ghost then = { λ step. Appends S.same (S.content B.limit) (S.shard step.slots) D.operations
+        step };
 }
 
 /// The lock of the shard that was taken last is released.

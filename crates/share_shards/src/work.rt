@@ -27,7 +27,8 @@ pub trait Work<T, S: Sharded<T>, E> {
 
     fn work(&mut self, value: &mut S, buffer: &mut [E])
         ensures does { does self.old buffer.old value.old self.new buffer.new }
-        ensures goes { (c : Pairs T) → S.content value.old c → (d : Pairs T) × S.content value.new d
+        ensures goes { (limit : ℕ) (c : Pairs T) → S.content limit value.old c
+            → (d : Pairs T) × S.content limit value.new d
             × StepsBy S.same (made self.new value.old) c d }
         ensures within { (count : ℕ) → suits self.old count
             → AreWithin (keys_at (S.shard count) (place self.old count))

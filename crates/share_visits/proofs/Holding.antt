@@ -4,6 +4,7 @@ use Rattle.std.specs.Prelude.{IsTrue, ◌==◌}
 use Rattle.share_parts.specs.Parts.{AreWithin, IsWithin}
 use Rattle.share_rule.specs.inner.Hold.{StepsBy}
 use Rattle.share_shards.specs.Held.{keys_of, numbers, values_of}
+use Rattle.share_shards.specs.Lock.{LockView}
 use Rattle.share_shards.specs.inner.SeatView.{ShardSeat, ShardView}
 use Rattle.share_shards.specs.inner.Steps.{HeldBy, MayAppend, caller_of, held_of, pairs_of, seen_of}
 use Rattle.share_shards.proofs.Holding.{held_from}
@@ -32,32 +33,39 @@ all_within : (mine : ℕ → Bool) → ((k : ℕ) → IsTrue (mine k)) → (oper
 all_within mine all [] = tt
 all_within mine all (x ∷ xs) = (call_within mine all x.call, all_within mine all xs)
 
-module _ {M : Type 0} (pairs : M → Pairs ℕ) (count : ℕ) (some : IsCount count) (m n : ShardSeat ℕ (Part M)) (took : TookAll pairs count m n) where
+module _ {M : Type 0} (pairs : M → Pairs ℕ) (limit_of : M → ℕ) (lock : LockView) (some : IsCount lock.table.slots) (m n : ShardSeat ℕ (Part M)) (took : TookAll pairs limit_of lock m n) where
+  abbrev count : ℕ
+  count = lock.table.slots
+
+  abbrev content : Part M → Pairs ℕ → Type 0
+  content = part_content pairs limit_of lock.limit
+
   abbrev same : ℕ → ℕ → Bool
   same a b = a == b
 
   pub numbers_taken : numbers (held_of n.0) ≡ down count
-  numbers_taken = took_all (part_content pairs) (shard_of count) took.shards m n took.idle took.took ∙ took.all
+  numbers_taken = took_all content (shard_of count) took.shards m n took.idle took.took ∙ took.all
 
   -- what was found
-  pub contains_taken : Contains pairs count (pairs_of n.0) n.1
+  pub contains_taken : Contains pairs limit_of lock (pairs_of n.0) n.1
   contains_taken = record {
     held = held_of n.0;
     is = ap (λ (z : ShardSeat ℕ (Part M)). z.1) took.took.holds.is;
     numbered = numbers_taken;
     ordered = took.took.holds.contain.ordered;
-    parts = took.took.holds.contain.parts;
+    parts = λ i part e. (took.took.holds.contain.parts i part e).0;
+    limits = λ i part e. (took.took.holds.contain.parts i part e).1;
   }
 
   -- what may be appended
-  pub may_end : (operations : List (Operation ℕ ℕ ℕ)) (p : ShardSeat ℕ (Part M)) (end : Pairs ℕ) → p.0 ≡ n.0 → Contains pairs count end p.1 → StepsBy same operations (pairs_of n.0) end
-      → MayAppend same (part_content pairs) (shard_of count) operations p (held_of p.0) (values_of p.1)
+  pub may_end : (operations : List (Operation ℕ ℕ ℕ)) (p : ShardSeat ℕ (Part M)) (end : Pairs ℕ) → p.0 ≡ n.0 → Contains pairs limit_of lock end p.1 → StepsBy same operations (pairs_of n.0) end
+      → MayAppend same content (shard_of count) operations p (held_of p.0) (values_of p.1)
   may_end operations p end view c goes =
-      may_all (part_content pairs) (shard_of count) took.shards m n took.idle took.took same operations p c.held end view c.is (c.numbered ∙ sym numbers_taken)
+      may_all content (shard_of count) took.shards m n took.idle took.took same operations p c.held end view c.is (c.numbered ∙ sym numbers_taken)
       (all_within (keys_of (shard_of count) (numbers (held_of n.0))) (λ k. ap (λ (l : List ℕ). keys_of (shard_of count) l k) numbers_taken ∙ all_keys count some k) operations)
-      goes c.parts
+      goes (λ i part e. (c.parts i part e, c.limits i part e))
 
   -- what is known then
   pub held_end : (operations : List (Operation ℕ ℕ ℕ)) (p q : ShardSeat ℕ (Part M)) → p.0 ≡ n.0 → HeldBy same operations p q → HeldBy same operations m q
   held_end operations p q view held =
-      held_from same (part_content pairs) (shard_of count) operations m p q (ap (λ (z : ShardView ℕ (Part M)). caller_of z) view ∙ took.took.caller) (ap (λ (z : ShardView ℕ (Part M)). seen_of z) view ∙ took.took.seen) held
+      held_from same content (shard_of count) operations m p q (ap (λ (z : ShardView ℕ (Part M)). caller_of z) view ∙ took.took.caller) (ap (λ (z : ShardView ℕ (Part M)). seen_of z) view ∙ took.took.seen) held

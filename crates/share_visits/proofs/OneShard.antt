@@ -5,6 +5,7 @@ use Rattle.std.proofs.lemmas.List.{length-map, map-append}
 use Rattle.std.specs.Prelude.{Option, Some}
 use Rattle.share_parts.specs.Parts.{kept, Ascends}
 use Rattle.share_shards.specs.Held.{keys_at, numbers, slots_of, Visited}
+use Rattle.share_shards.specs.Lock.{LockView}
 use Rattle.share_visits.specs.Whole.{Contains, down, shard_of}
 use Rattle.share_visits.specs.declared.part.Part.{Part}
 use Rattle.share_visits.specs.inner.One.{VisitedOne}
@@ -78,7 +79,10 @@ module _ {M : Type 0} where
   Visits does shards v before w after slots later =
       (held : Held M) (others : Slots M) → slots ≡ slots_of held ++ others → numbers held ≡ reverse shards → (values : Held M) × (later ≡ others ++ slots_of values) × Visited does v before held w after values
 
-  module _ (pairs : M → Pairs ℕ) (count shard : ℕ) (within : shard < count) (all : Pairs ℕ) (slots : Slots M) (c : Contains pairs count all slots) where
+  module _ (pairs : M → Pairs ℕ) (limit_of : M → ℕ) (lock : LockView) (shard : ℕ) (within : shard < lock.table.slots) (all : Pairs ℕ) (slots : Slots M) (c : Contains pairs limit_of lock all slots) where
+    abbrev count : ℕ
+    count = lock.table.slots
+
     abbrev at : PlaceOf count shard c.held
     at = place_of count shard within c.held c.numbered
 
@@ -95,9 +99,9 @@ module _ {M : Type 0} where
         ∙ (sym (map-append (λ (h : ℕ × Part M). h.0) at.before ((shard, at.part) ∷ at.behind)) ∙ (ap (λ (l : Held M). numbers l) (sym at.is) ∙ c.numbered))
 
     -- what the shards contain then
-    contains_then : (value : Part M) (later : Slots M) (end : Pairs ℕ) → later ≡ slots_of (with_value value) → Ascends end → kept (keys_at (shard_of count) shard) end ≡ pairs value.map
-        → ((i : ℕ) → i ≢ shard → kept (keys_at (shard_of count) i) end ≡ kept (keys_at (shard_of count) i) all) → Contains pairs count end later
-    contains_then value later end is up here others = record {
+    contains_then : (value : Part M) (later : Slots M) (end : Pairs ℕ) → later ≡ slots_of (with_value value) → Ascends end → kept (keys_at (shard_of count) shard) end ≡ pairs value.map → limit_of value.map ≡ lock.limit
+        → ((i : ℕ) → i ≢ shard → kept (keys_at (shard_of count) i) end ≡ kept (keys_at (shard_of count) i) all) → Contains pairs limit_of lock end later
+    contains_then value later end is up here limit others = record {
       held = with_value value;
       is = is;
       numbered = numbered_as value;
@@ -109,6 +113,14 @@ module _ {M : Type 0} where
             let one : value ≡ part = cc in
             ap (λ (j : ℕ). kept (keys_at (shard_of count) j) end) same ∙ (here ∙ ap (λ (x : Part M). pairs x.map) one)
         | inr ne ↦ others i ne ∙ c.parts i part (ap (λ (l : Held M). lookup l i) at.is ∙ (else_same at.before at.behind shard i at.part value ne ∙ e))
+      ];
+      limits = λ i part e. elim (cases_eq i shard) [
+        | inl same ↦
+            let found = at.found value in
+            let again : lookup (with_value value) shard ≡ Some part = ap (λ (j : ℕ). lookup (with_value value) j) (sym same) ∙ e in
+            let one : value ≡ part = cc in
+            ap (λ (x : Part M). limit_of x.map) (sym one) ∙ limit
+        | inr ne ↦ c.limits i part (ap (λ (l : Held M). lookup l i) at.is ∙ (else_same at.before at.behind shard i at.part value ne ∙ e))
       ];
     }
 
@@ -123,7 +135,7 @@ module _ {M : Type 0} where
       to_one = ((shard, at.part) ∷ [], slots_of at.behind ++ slots_of at.before, first, refl)
 
       module _ {V E : Type 0} (does : V → List E → ℕ → Part M → V → List E → Part M → Type 0) (v w : V) (before after : List E) (next later : Slots M) (turns_back : Turns shard next later) where
-        one_in : (values : Held M) → next ≡ (slots_of at.behind ++ slots_of at.before) ++ slots_of values → Visited does v before ((shard, at.part) ∷ []) w after values → VisitedOne pairs does count shard all v before w after slots later
+        one_in : (values : Held M) → next ≡ (slots_of at.behind ++ slots_of at.before) ++ slots_of values → Visited does v before ((shard, at.part) ∷ []) w after values → VisitedOne pairs limit_of does lock shard all v before w after slots later
         one_in [] is t = absurd t
         one_in (k ∷ (x ∷ values)) is t = absurd t.4
         one_in (k ∷ []) is t =
@@ -140,12 +152,13 @@ module _ {M : Type 0} where
               part = at.part;
               value = k.1;
               contains = c.parts shard at.part (ap (λ (l : Held M). lookup l shard) at.is ∙ at.found at.part);
+              limit = c.limits shard at.part (ap (λ (l : Held M). lookup l shard) at.is ∙ at.found at.part);
               visited = subst (λ (z : V × List E). does v before shard at.part z.0 z.1 k.1) (λ i. (sym t.4.0 i, sym t.4.1 i)) t.3;
               stays = λ same. now ∙ (ap (λ (x : Part M). slots_of (with_value x)) same ∙ (ap (λ (l : Held M). slots_of l) (sym at.is) ∙ sym c.is));
-              leaves = λ end up here others. contains_then k.1 later end now up here others;
+              leaves = λ end up here limit others. contains_then k.1 later end now up here limit others;
             }
 
-        pub one_visited : Visits does (shard ∷ []) v before w after mid next → VisitedOne pairs does count shard all v before w after slots later
+        pub one_visited : Visits does (shard ∷ []) v before w after mid next → VisitedOne pairs limit_of does lock shard all v before w after slots later
         one_visited visits =
             let t = visits ((shard, at.part) ∷ []) (slots_of at.behind ++ slots_of at.before) first refl in
             one_in t.0 t.1 t.2

@@ -6,7 +6,8 @@ use Rattle.share_parts.specs.Nearest.{nearer}
 use Rattle.share_parts.specs.Parts.{kept}
 use Rattle.share_parts.proofs.Parts.{kept-all}
 use Rattle.share_shards.specs.Held.{keys_of, numbers, slots_of, AreDistinct, Visited}
-use Rattle.share_shards.proofs.Whole.{nearest_visited, parts_count, sum_sizes, tallied, visited_all, visited_numbers, visited_same}
+use Rattle.share_shards.specs.Lock.{LockView}
+use Rattle.share_shards.proofs.Whole.{bounded, nearest_visited, parts_count, sum_sizes, tallied, visited_all, visited_each, visited_numbers, visited_same}
 use Rattle.share_visits.specs.Charged.{AreCharges, IsChargeOfAll, sum_of}
 use Rattle.share_visits.specs.Near.{near_of}
 use Rattle.share_visits.specs.Visits.{Charges, Clears, Finds, Tallies}
@@ -21,7 +22,10 @@ use Rattle.share_visits.proofs.Numbers.{all_keys, distinct, few_shards, length-d
 use Rattle.spec_map.specs.Map.{Pairs}
 use Rattle.spec_map.specs.Near.{pair_near}
 
-module _ {M : Type 0} (pairs : M → Pairs ℕ) (count : ℕ) where
+module _ {M : Type 0} (pairs : M → Pairs ℕ) (limit_of : M → ℕ) (lock : LockView) where
+  abbrev count : ℕ
+  count = lock.table.slots
+
   abbrev Held : Type 0
   Held = List (ℕ × Part M)
 
@@ -33,19 +37,19 @@ module _ {M : Type 0} (pairs : M → Pairs ℕ) (count : ℕ) where
     abbrev pub Visits : Type 0
     Visits = (held : Held) (others : Slots) → slots ≡ slots_of held ++ others → numbers held ≡ reverse shards → (values : Held) × (later ≡ others ++ slots_of values) × Visited does v before held w after values
 
-    pub visited : (all : Pairs ℕ) (c : Contains pairs count all slots) → reverse shards ≡ down count → Visits
+    pub visited : (all : Pairs ℕ) (c : Contains pairs limit_of lock all slots) → reverse shards ≡ down count → Visits
         → (values : Held) × (later ≡ slots_of values) × Visited does v before c.held w after values
     visited all c is visits = visits c.held [] (c.is ∙ sym (append-nil (slots_of c.held))) (c.numbered ∙ sym is)
 
     -- visits that leave each value as it was
-    pub looked : (all : Pairs ℕ) (c : Contains pairs count all slots) → reverse shards ≡ down count → Visits
+    pub looked : (all : Pairs ℕ) (c : Contains pairs limit_of lock all slots) → reverse shards ≡ down count → Visits
         → ((v : V) (b : List E) (i : ℕ) (x : Part M) (w : V) (a : List E) (y : Part M) → does v b i x w a y → y ≡ x)
         → (values : Held) × (later ≡ slots) × Visited does v before c.held w after values
     looked all c is visits same =
         let t = visited all c is visits in
         (t.0, t.1 ∙ (ap (λ (l : Held). slots_of l) (visited_same does same v w before after c.held t.0 t.2) ∙ sym c.is), t.2)
 
-  within_all : (all : Pairs ℕ) (slots : Slots) (c : Contains pairs count all slots) → IsCount count → kept (keys_of (shard_of count) (numbers c.held)) all ≡ all
+  within_all : (all : Pairs ℕ) (slots : Slots) (c : Contains pairs limit_of lock all slots) → IsCount count → kept (keys_of (shard_of count) (numbers c.held)) all ≡ all
   within_all all slots c some =
       kept-all (keys_of (shard_of count) (numbers c.held)) all (λ k. ap (λ (l : List ℕ). keys_of (shard_of count) l k) c.numbered ∙ all_keys count some k)
 
@@ -72,7 +76,7 @@ module _ {M : Type 0} (pairs : M → Pairs ℕ) (count : ℕ) where
   few_pairs v w before after [] (k ∷ values) t = absurd t
   few_pairs v w before after (h ∷ held) [] t = absurd t
 
-  module _ (all : Pairs ℕ) (slots : Slots) (c : Contains pairs count all slots) (some : IsCount count) where
+  module _ (all : Pairs ℕ) (slots : Slots) (c : Contains pairs limit_of lock all slots) (some : IsCount count) where
     pub counted_all : {E : Type 0} (v w : Tally) (before after : List E) (values : Held) → v.pairs ≡ 0 → Visited (Tallies pairs) v before c.held w after values → w.pairs ≡ length all
     counted_all v w before after values start t =
         let few = few_pairs v w before after c.held values t in
@@ -95,7 +99,7 @@ module _ {M : Type 0} (pairs : M → Pairs ℕ) (count : ℕ) where
     sizes_of [] = refl
     sizes_of (h ∷ held) = ap (λ (n : ℕ). size_of h.1 + n) (sizes_of held)
 
-    charged_on : {E : Type 0} (charges : M → ℕ → Type 0) (v w : Charge) (before after : List E) (held values : Held) → v.bytes < 2 ^ 128 → Visited (Charges pairs charges) v before held w after values
+    charged_on : {E : Type 0} (charges : M → ℕ → Type 0) (v w : Charge) (before after : List E) (held values : Held) → v.bytes < 2 ^ 128 → Visited (Charges pairs charges limit_of) v before held w after values
         → (sizes : List ℕ) × AreCharges charges (maps_of held) sizes × (w.bytes ≡ min (v.bytes + sum_of (λ b. b) sizes) (2 ^ 128 - 1))
     charged_on charges v w before after [] [] small t = let is = ap (λ (c : Charge). c.bytes) t.0 in ([], tt, omega (arith, is, small))
     charged_on charges v w before after (h ∷ held) (k ∷ values) small t =
@@ -106,7 +110,7 @@ module _ {M : Type 0} (pairs : M → Pairs ℕ) (count : ℕ) where
     charged_on charges v w before after [] (k ∷ values) small t = absurd t
     charged_on charges v w before after (h ∷ held) [] small t = absurd t
 
-    pub charged_all : {E : Type 0} (charges : M → ℕ → Type 0) (v w : Charge) (before after : List E) (values : Held) → v.bytes ≡ 0 → Visited (Charges pairs charges) v before c.held w after values
+    pub charged_all : {E : Type 0} (charges : M → ℕ → Type 0) (v w : Charge) (before after : List E) (values : Held) → v.bytes ≡ 0 → Visited (Charges pairs charges limit_of) v before c.held w after values
         → (maps : List M) × (length maps ≡ count) × (length all ≡ sum_of (λ m. length (pairs m)) maps) × IsChargeOfAll charges maps w.bytes
     charged_all charges v w before after values start t =
         let found = charged_on charges v w before after c.held values (omega (arith, start)) t in
@@ -123,6 +127,17 @@ module _ {M : Type 0} (pairs : M → Pairs ℕ) (count : ℕ) where
           record { sizes = found.0; each = found.1; sum = omega (arith, sum, start) },
         )
 
+    -- each is charged no more than its limit
+    pub charged_within : {E : Type 0} (charges : M → ℕ → Type 0) (v w : Charge) (before after : List E) (values : Held) → v.bytes ≡ 0 → Visited (Charges pairs charges limit_of) v before c.held w after values → w.bytes ≤ count * lock.limit
+    charged_within charges v w before after values start t =
+        let below =
+        bounded lock.limit (Charges pairs charges limit_of) (λ (a : Charge). a.bytes) (λ (x : Part M). limit_of x.map ≡ lock.limit) (λ v b i x w a y d is. let adds = d.adds in let within = d.within in omega (arith, adds, within, is)) v w before after c.held values
+        (subst (λ (l : List ℕ). AreDistinct l) (sym c.numbered) (distinct count)) c.limits t
+        in
+        let many : length c.held ≡ count = sym (length-map c.held (λ h. h.0)) ∙ (ap (λ (l : List ℕ). length l) c.numbered ∙ length-down count) in
+        let same = ap (λ (n : ℕ). n * lock.limit) many in
+        omega (arith, below, same, start)
+
     pub found_all : {E : Type 0} (near : Near) (v w : Find) (before after : List E) (values : Held) → v.near ≡ near → v.pair ≡ None → Visited (Finds pairs) v before c.held w after values
         → w.pair ≡ pair_near all (near_of near)
     found_all {E} near v w before after values is start t =
@@ -133,11 +148,14 @@ module _ {M : Type 0} (pairs : M → Pairs ℕ) (count : ℕ) where
         (subst (λ (l : List ℕ). AreDistinct l) (sym c.numbered) (distinct count)) (within_all all slots c some)
         (λ i x e. ap (λ (l : Pairs ℕ). pair_near l (near_of near)) (sym (c.parts i x e))) start
 
-    pub cleared : {E : Type 0} (v w : Clear) (before after : List E) (values : Held) (later : Slots) → later ≡ slots_of values → Visited (Clears pairs) v before c.held w after values → Contains pairs count [] later
+    pub cleared : {E : Type 0} (v w : Clear) (before after : List E) (values : Held) (later : Slots) → later ≡ slots_of values → Visited (Clears pairs limit_of) v before c.held w after values → Contains pairs limit_of lock [] later
     cleared {E} v w before after values later on t = record {
       held = values;
       is = on;
-      numbered = visited_numbers (Clears pairs) v w before after c.held values t ∙ c.numbered;
+      numbered = visited_numbers (Clears pairs limit_of) v w before after c.held values t ∙ c.numbered;
       ordered = (0, tt);
-      parts = λ i y e. sym (visited_all (Clears pairs) (λ (x : Part M). pairs x.map ≡ []) (λ v b i x w a y d. d.empty) v w before after c.held values t i y e);
+      parts = λ i y e. sym (visited_all (Clears pairs limit_of) (λ (x : Part M). pairs x.map ≡ []) (λ v b i x w a y d. d.empty) v w before after c.held values t i y e);
+      limits = λ i y e.
+          let one = visited_each (Clears pairs limit_of) (λ _. Unit {0}) (λ (x y : Part M). limit_of y.map ≡ limit_of x.map) (λ v b i x w a y d k. (tt, d.limit)) v w before after c.held values tt t i y e in
+          one.2 ∙ c.limits i one.0 one.1;
     }

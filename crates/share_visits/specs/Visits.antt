@@ -27,20 +27,23 @@ module _ {M E : Type 0} (pairs : M → Pairs ℕ) where
     pub keeps : new.pair ≡ nearer (near_of old.near) old.pair (pair_near (pairs part.map) (near_of old.near))
 
   -- what is charged is added
-  pub record Charges (charges : M → ℕ → Type 0) (old : Charge) (before : List E) (shard : ℕ) (part : Part M) (new : Charge) (after : List E) (value : Part M) : Type 0 where
+  pub record Charges (charges : M → ℕ → Type 0) (limit_of : M → ℕ) (old : Charge) (before : List E) (shard : ℕ) (part : Part M) (new : Charge) (after : List E) (value : Part M) : Type 0 where
     pub stays : value ≡ part
     pub bytes : ℕ
     pub is : charges part.map bytes
+    pub within : bytes ≤ limit_of part.map
     pub adds : new.bytes ≡ min (old.bytes + bytes) (2 ^ 128 - 1)
 
   -- the key is removed
-  pub record Removes (old : Remove) (before : List E) (shard : ℕ) (part : Part M) (new : Remove) (after : List E) (value : Part M) : Type 0 where
+  pub record Removes (limit_of : M → ℕ) (old : Remove) (before : List E) (shard : ℕ) (part : Part M) (new : Remove) (after : List E) (value : Part M) : Type 0 where
     pub key : new.key ≡ old.key
     pub left : pairs value.map ≡ without (pairs part.map) old.key
+    pub limit : limit_of value.map ≡ limit_of part.map
 
   -- no pair is left
-  pub record Clears (old : Clear) (before : List E) (shard : ℕ) (part : Part M) (new : Clear) (after : List E) (value : Part M) : Type 0 where
+  pub record Clears (limit_of : M → ℕ) (old : Clear) (before : List E) (shard : ℕ) (part : Part M) (new : Clear) (after : List E) (value : Part M) : Type 0 where
     pub empty : pairs value.map ≡ []
+    pub limit : limit_of value.map ≡ limit_of part.map
 
   -- pairs of the shard are listed
   pub record Lists (entry : ℕ → ℕ → E) (old : Page) (before : List E) (shard : ℕ) (part : Part M) (new : Page) (after : List E) (value : Part M) : Type 0 where

@@ -21,13 +21,13 @@ pub(crate) fn nearest_of_each<M: MapShard + Drop>(
     seat: &mut PartSeat<M>,
     near: Near,
 ) -> [Option<(u64, u64)>; 64]
-    requires table { seat.old.table_id ≡ lock.now }
-    requires shards { IsCount lock.now.slots }
-    requires all { (all : Pairs ℕ) × Contains M.pairs lock.now.slots all seat.old.me.1 }
+    requires table { seat.old.table_id ≡ lock.now.table }
+    requires shards { IsCount lock.now.table.slots }
+    requires all { (all : Pairs ℕ) × Contains M.pairs M.limit lock.now all seat.old.me.1 }
     ensures table { seat.new.table_id ≡ seat.old.table_id }
     ensures same { seat.new.me ≡ seat.old.me }
-    ensures each { (all : Pairs ℕ) → Contains M.pairs lock.now.slots all seat.old.me.1
-        → AreNearest lock.now.slots (near_of near) all result }
+    ensures each { (all : Pairs ℕ) → Contains M.pairs M.limit lock.now all seat.old.me.1
+        → AreNearest lock.now.table.slots (near_of near) all result }
 {
     let mut pairs = [None; 64];
     for shard in 0..lock.shards() {

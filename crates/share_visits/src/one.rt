@@ -37,13 +37,13 @@ pub(crate) fn visit_one<E, M: MapShard + Drop, V: Visit<Part<M>, E>>(
     visit: &mut V,
     buffer: &mut [E],
 )
-    requires table { seat.old.table_id ≡ lock.now }
-    requires within { shard < lock.now.slots }
-    requires all { (all : Pairs ℕ) × Contains M.pairs lock.now.slots all seat.old.me.1 }
+    requires table { seat.old.table_id ≡ lock.now.table }
+    requires within { shard < lock.now.table.slots }
+    requires all { (all : Pairs ℕ) × Contains M.pairs M.limit lock.now all seat.old.me.1 }
     ensures table { seat.new.table_id ≡ seat.old.table_id }
     ensures view { seat.new.me.0 ≡ seat.old.me.0 }
-    ensures visited { (all : Pairs ℕ) → Contains M.pairs lock.now.slots all seat.old.me.1
-        → VisitedOne M.pairs V.does lock.now.slots shard all visit.old buffer.old
+    ensures visited { (all : Pairs ℕ) → Contains M.pairs M.limit lock.now all seat.old.me.1
+        → VisitedOne M.pairs M.limit V.does lock.now shard all visit.old buffer.old
         visit.new buffer.new seat.old.me.1 seat.new.me.1 }
 {
     turn(seat, lock.shards() - 1 - shard);
@@ -58,13 +58,14 @@ pub(crate) fn nearest_at<M: MapShard + Drop>(
     shard: usize,
     near: Near,
 ) -> Option<(u64, u64)>
-    requires table { seat.old.table_id ≡ lock.now }
-    requires within { shard < lock.now.slots }
-    requires all { (all : Pairs ℕ) × Contains M.pairs lock.now.slots all seat.old.me.1 }
+    requires table { seat.old.table_id ≡ lock.now.table }
+    requires within { shard < lock.now.table.slots }
+    requires all { (all : Pairs ℕ) × Contains M.pairs M.limit lock.now all seat.old.me.1 }
     ensures table { seat.new.table_id ≡ seat.old.table_id }
     ensures same { seat.new.me ≡ seat.old.me }
-    ensures pair { (all : Pairs ℕ) → Contains M.pairs lock.now.slots all seat.old.me.1
-        → result ≡ pair_near (kept (keys_at (shard_of lock.now.slots) shard) all) (near_of near) }
+    ensures pair { (all : Pairs ℕ) → Contains M.pairs M.limit lock.now all seat.old.me.1
+        → result ≡ pair_near (kept (keys_at (shard_of lock.now.table.slots) shard) all)
+        (near_of near) }
 {
     let mut find = Find { near, pair: None };
     visit_one::<(), M, Find>(lock, seat, shard, &mut find, &mut []);

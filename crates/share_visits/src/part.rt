@@ -24,6 +24,9 @@ pub trait MapShard {
     // It is charged so many bytes.
     ghost charges: { Self → ℕ → Type 0 };
 
+    // The bytes that it may be charged at most.
+    ghost limit: { Self → ℕ };
+
     /// How many pairs there are.
     fn pair_count(&self) -> u128
         ensures count { result ≡ length (pairs self.now) }
@@ -35,15 +38,18 @@ pub trait MapShard {
 
     /// What it is charged, in bytes.
     fn charge(&self) -> u128
-        ensures { charges self.now result };
+        ensures charge { charges self.now result }
+        ensures within { result ≤ limit self.now };
 
     /// Removes the pair at the key, if there is one.
     fn remove_key(&mut self, key: u64)
-        ensures { pairs self.new ≡ without (pairs self.old) key };
+        ensures pairs { pairs self.new ≡ without (pairs self.old) key }
+        ensures limit { limit self.new ≡ limit self.old };
 
     /// Removes all pairs.
     fn clear(&mut self)
-        ensures { pairs self.new ≡ [] };
+        ensures pairs { pairs self.new ≡ [] }
+        ensures limit { limit self.new ≡ limit self.old };
 }
 
 /// The same, where pairs are listed as entries of a buffer.
@@ -81,7 +87,7 @@ impl<M: MapShard> Sharded<u64> for Part<M> {
 
     ghost same = { λ a b. a == b };
 
-    ghost content = { λ part m. m ≡ M.pairs part.map };
+    ghost content = { λ limit part m. (m ≡ M.pairs part.map) × (M.limit part.map ≡ limit) };
 
     ghost shard = { shard_of };
 }

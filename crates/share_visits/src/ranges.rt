@@ -61,14 +61,14 @@ fn page_at<E, M: Pages<E> + Drop>(
     back: bool,
     buffer: &mut [E],
 ) -> usize
-    requires table { seat.old.table_id ≡ lock.now }
-    requires shards { IsCount lock.now.slots }
+    requires table { seat.old.table_id ≡ lock.now.table }
+    requires shards { IsCount lock.now.table.slots }
     requires one { (k : ℕ) → start ≤ k → k ≤ last
-        → shard_of lock.now.slots k ≡ shard_of lock.now.slots start }
-    requires all { (all : Pairs ℕ) × Contains M.pairs lock.now.slots all seat.old.me.1 }
+        → shard_of lock.now.table.slots k ≡ shard_of lock.now.table.slots start }
+    requires all { (all : Pairs ℕ) × Contains M.pairs M.limit lock.now all seat.old.me.1 }
     ensures table { seat.new.table_id ≡ seat.old.table_id }
     ensures same { seat.new.me ≡ seat.old.me }
-    ensures written { (all : Pairs ℕ) → Contains M.pairs lock.now.slots all seat.old.me.1
+    ensures written { (all : Pairs ℕ) → Contains M.pairs M.limit lock.now all seat.old.me.1
         → AreWritten M.entry (listed back (between all start (last + 1)))
         buffer.old result buffer.new }
 {
@@ -93,16 +93,16 @@ fn page_rest<E, M: Pages<E> + Drop>(
     written: usize,
     buffer: &mut [E],
 ) -> usize
-    requires table { seat.old.table_id ≡ lock.now }
-    requires shards { IsCount lock.now.slots }
+    requires table { seat.old.table_id ≡ lock.now.table }
+    requires shards { IsCount lock.now.table.slots }
     requires one { (k : ℕ) → start ≤ k → k ≤ last
-        → shard_of lock.now.slots k ≡ shard_of lock.now.slots start }
-    requires all { (all : Pairs ℕ) × Contains M.pairs lock.now.slots all seat.old.me.1 }
+        → shard_of lock.now.table.slots k ≡ shard_of lock.now.table.slots start }
+    requires all { (all : Pairs ℕ) × Contains M.pairs M.limit lock.now all seat.old.me.1 }
     requires within { written ≤ length buffer.old }
     ensures table { seat.new.table_id ≡ seat.old.table_id }
     ensures same { seat.new.me ≡ seat.old.me }
     ensures within { result ≤ length buffer.old }
-    ensures written { (all : Pairs ℕ) → Contains M.pairs lock.now.slots all seat.old.me.1
+    ensures written { (all : Pairs ℕ) → Contains M.pairs M.limit lock.now all seat.old.me.1
         → (done : Pairs ℕ) (before : List E) → AreWritten M.entry done before written buffer.old
         → written ≡ length done
         → AreWritten M.entry (done ++ listed back (between all start (last + 1)))
@@ -121,25 +121,25 @@ fn run_above<E: Drop, M: Pages<E> + Drop>(
     written: usize,
     buffer: &mut [E],
 ) -> (usize, Option<(u64, u64)>)
-    requires table { seat.old.table_id ≡ lock.now }
-    requires shards { IsCount lock.now.slots }
+    requires table { seat.old.table_id ≡ lock.now.table }
+    requires shards { IsCount lock.now.table.slots }
     requires order { first.0 ≤ end }
     requires one { (k : ℕ) → first.0 ≤ k → k ≤ end
-        → shard_of lock.now.slots k ≡ shard_of lock.now.slots first.0 }
-    requires all { (all : Pairs ℕ) × Contains M.pairs lock.now.slots all seat.old.me.1 }
-    requires first { (all : Pairs ℕ) → Contains M.pairs lock.now.slots all seat.old.me.1
+        → shard_of lock.now.table.slots k ≡ shard_of lock.now.table.slots first.0 }
+    requires all { (all : Pairs ℕ) × Contains M.pairs M.limit lock.now all seat.old.me.1 }
+    requires first { (all : Pairs ℕ) → Contains M.pairs M.limit lock.now all seat.old.me.1
         → lookup all first.0 ≡ Some first.1 }
     requires room { written < length buffer.old }
     ensures table { seat.new.table_id ≡ seat.old.table_id }
     ensures same { seat.new.me ≡ seat.old.me }
     ensures within { result.0 ≤ length buffer.old }
-    ensures written { (all : Pairs ℕ) → Contains M.pairs lock.now.slots all seat.old.me.1
+    ensures written { (all : Pairs ℕ) → Contains M.pairs M.limit lock.now all seat.old.me.1
         → (done : Pairs ℕ) (before : List E) → AreWritten M.entry done before written buffer.old
         → written ≡ length done
         → AreWritten M.entry (done ++ between all first.0 (end + 1)) before result.0 buffer.new }
-    ensures next { (all : Pairs ℕ) → Contains M.pairs lock.now.slots all seat.old.me.1
-        → result.1 ≡ pair_near (kept (keys_at (shard_of lock.now.slots)
-        (shard_of lock.now.slots first.0)) all) (above end) }
+    ensures next { (all : Pairs ℕ) → Contains M.pairs M.limit lock.now all seat.old.me.1
+        → result.1 ≡ pair_near (kept (keys_at (shard_of lock.now.table.slots)
+        (shard_of lock.now.table.slots first.0)) all) (above end) }
 {
     let (key, value) = first;
     buffer[written] = M::entry_of(key, value);
@@ -164,26 +164,26 @@ fn run_below<E: Drop, M: Pages<E> + Drop>(
     written: usize,
     buffer: &mut [E],
 ) -> (usize, Option<(u64, u64)>)
-    requires table { seat.old.table_id ≡ lock.now }
-    requires shards { IsCount lock.now.slots }
+    requires table { seat.old.table_id ≡ lock.now.table }
+    requires shards { IsCount lock.now.table.slots }
     requires order { start ≤ last.0 }
     requires one { (k : ℕ) → start ≤ k → k ≤ last.0
-        → shard_of lock.now.slots k ≡ shard_of lock.now.slots last.0 }
-    requires all { (all : Pairs ℕ) × Contains M.pairs lock.now.slots all seat.old.me.1 }
-    requires last { (all : Pairs ℕ) → Contains M.pairs lock.now.slots all seat.old.me.1
+        → shard_of lock.now.table.slots k ≡ shard_of lock.now.table.slots last.0 }
+    requires all { (all : Pairs ℕ) × Contains M.pairs M.limit lock.now all seat.old.me.1 }
+    requires last { (all : Pairs ℕ) → Contains M.pairs M.limit lock.now all seat.old.me.1
         → lookup all last.0 ≡ Some last.1 }
     requires room { written < length buffer.old }
     ensures table { seat.new.table_id ≡ seat.old.table_id }
     ensures same { seat.new.me ≡ seat.old.me }
     ensures within { result.0 ≤ length buffer.old }
-    ensures written { (all : Pairs ℕ) → Contains M.pairs lock.now.slots all seat.old.me.1
+    ensures written { (all : Pairs ℕ) → Contains M.pairs M.limit lock.now all seat.old.me.1
         → (done : Pairs ℕ) (before : List E) → AreWritten M.entry done before written buffer.old
         → written ≡ length done
         → AreWritten M.entry (done ++ reverse (between all start (last.0 + 1)))
         before result.0 buffer.new }
-    ensures next { (all : Pairs ℕ) → Contains M.pairs lock.now.slots all seat.old.me.1
-        → result.1 ≡ pair_near (kept (keys_at (shard_of lock.now.slots)
-        (shard_of lock.now.slots last.0)) all) (below start) }
+    ensures next { (all : Pairs ℕ) → Contains M.pairs M.limit lock.now all seat.old.me.1
+        → result.1 ≡ pair_near (kept (keys_at (shard_of lock.now.table.slots)
+        (shard_of lock.now.table.slots last.0)) all) (below start) }
 {
     let (key, value) = last;
     buffer[written] = M::entry_of(key, value);
@@ -209,14 +209,14 @@ fn list_above<E: Drop, M: Pages<E> + Drop>(
     written: usize,
     buffer: &mut [E],
 ) -> usize
-    requires table { seat.old.table_id ≡ lock.now }
-    requires shards { IsCount lock.now.slots }
+    requires table { seat.old.table_id ≡ lock.now.table }
+    requires shards { IsCount lock.now.table.slots }
     requires order { key < last }
-    requires all { (all : Pairs ℕ) × Contains M.pairs lock.now.slots all seat.old.me.1 }
+    requires all { (all : Pairs ℕ) × Contains M.pairs M.limit lock.now all seat.old.me.1 }
     requires room { written < length buffer.old }
     ensures table { seat.new.table_id ≡ seat.old.table_id }
     ensures same { seat.new.me ≡ seat.old.me }
-    ensures written { (all : Pairs ℕ) → Contains M.pairs lock.now.slots all seat.old.me.1
+    ensures written { (all : Pairs ℕ) → Contains M.pairs M.limit lock.now all seat.old.me.1
         → (done : Pairs ℕ) (before : List E) → AreWritten M.entry done before written buffer.old
         → written ≡ length done
         → AreWritten M.entry (done ++ between all (key + 1) (last + 1)) before result buffer.new }
@@ -252,14 +252,14 @@ fn list_under<E: Drop, M: Pages<E> + Drop>(
     written: usize,
     buffer: &mut [E],
 ) -> usize
-    requires table { seat.old.table_id ≡ lock.now }
-    requires shards { IsCount lock.now.slots }
+    requires table { seat.old.table_id ≡ lock.now.table }
+    requires shards { IsCount lock.now.table.slots }
     requires order { start < key }
-    requires all { (all : Pairs ℕ) × Contains M.pairs lock.now.slots all seat.old.me.1 }
+    requires all { (all : Pairs ℕ) × Contains M.pairs M.limit lock.now all seat.old.me.1 }
     requires room { written < length buffer.old }
     ensures table { seat.new.table_id ≡ seat.old.table_id }
     ensures same { seat.new.me ≡ seat.old.me }
-    ensures written { (all : Pairs ℕ) → Contains M.pairs lock.now.slots all seat.old.me.1
+    ensures written { (all : Pairs ℕ) → Contains M.pairs M.limit lock.now all seat.old.me.1
         → (done : Pairs ℕ) (before : List E) → AreWritten M.entry done before written buffer.old
         → written ≡ length done
         → AreWritten M.entry (done ++ reverse (between all start key)) before result buffer.new }
@@ -295,12 +295,12 @@ pub fn list<E: Drop, M: Pages<E> + Drop>(
     last: u64,
     buffer: &mut [E],
 ) -> usize
-    requires table { seat.old.table_id ≡ lock.now }
-    requires shards { IsCount lock.now.slots }
-    requires all { (all : Pairs ℕ) × Contains M.pairs lock.now.slots all seat.old.me.1 }
+    requires table { seat.old.table_id ≡ lock.now.table }
+    requires shards { IsCount lock.now.table.slots }
+    requires all { (all : Pairs ℕ) × Contains M.pairs M.limit lock.now all seat.old.me.1 }
     ensures table { seat.new.table_id ≡ seat.old.table_id }
     ensures same { seat.new.me ≡ seat.old.me }
-    ensures written { (all : Pairs ℕ) → Contains M.pairs lock.now.slots all seat.old.me.1
+    ensures written { (all : Pairs ℕ) → Contains M.pairs M.limit lock.now all seat.old.me.1
         → AreWritten M.entry (between all start (last + 1)) buffer.old result buffer.new }
 {
     if last < start {
@@ -332,12 +332,12 @@ pub fn list_below<E: Drop, M: Pages<E> + Drop>(
     end: u64,
     buffer: &mut [E],
 ) -> usize
-    requires table { seat.old.table_id ≡ lock.now }
-    requires shards { IsCount lock.now.slots }
-    requires all { (all : Pairs ℕ) × Contains M.pairs lock.now.slots all seat.old.me.1 }
+    requires table { seat.old.table_id ≡ lock.now.table }
+    requires shards { IsCount lock.now.table.slots }
+    requires all { (all : Pairs ℕ) × Contains M.pairs M.limit lock.now all seat.old.me.1 }
     ensures table { seat.new.table_id ≡ seat.old.table_id }
     ensures same { seat.new.me ≡ seat.old.me }
-    ensures written { (all : Pairs ℕ) → Contains M.pairs lock.now.slots all seat.old.me.1
+    ensures written { (all : Pairs ℕ) → Contains M.pairs M.limit lock.now all seat.old.me.1
         → AreWritten M.entry (between all start end) buffer.old result buffer.new }
 {
     if end == 0 {
@@ -354,12 +354,12 @@ pub fn list_back<E: Drop, M: Pages<E> + Drop>(
     last: u64,
     buffer: &mut [E],
 ) -> usize
-    requires table { seat.old.table_id ≡ lock.now }
-    requires shards { IsCount lock.now.slots }
-    requires all { (all : Pairs ℕ) × Contains M.pairs lock.now.slots all seat.old.me.1 }
+    requires table { seat.old.table_id ≡ lock.now.table }
+    requires shards { IsCount lock.now.table.slots }
+    requires all { (all : Pairs ℕ) × Contains M.pairs M.limit lock.now all seat.old.me.1 }
     ensures table { seat.new.table_id ≡ seat.old.table_id }
     ensures same { seat.new.me ≡ seat.old.me }
-    ensures written { (all : Pairs ℕ) → Contains M.pairs lock.now.slots all seat.old.me.1
+    ensures written { (all : Pairs ℕ) → Contains M.pairs M.limit lock.now all seat.old.me.1
         → AreWritten M.entry (reverse (between all start (last + 1))) buffer.old result buffer.new }
 {
     if last < start {

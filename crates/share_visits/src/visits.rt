@@ -59,7 +59,7 @@ pub struct Charge {
 impl<M: MapShard> Visit<Part<M>, ()> for Charge {
     ghost use Rattle.share_visits.specs.Visits.{Charges};
 
-    ghost does = { Charges M.pairs M.charges };
+    ghost does = { Charges M.pairs M.charges M.limit };
 
     fn visit(&mut self, shard: usize, value: &mut Part<M>, buffer: &mut [()]) {
         let _ = shard;
@@ -77,7 +77,7 @@ pub struct Remove {
 impl<M: MapShard> Visit<Part<M>, ()> for Remove {
     ghost use Rattle.share_visits.specs.Visits.{Removes};
 
-    ghost does = { Removes M.pairs };
+    ghost does = { Removes M.pairs M.limit };
 
     fn visit(&mut self, shard: usize, value: &mut Part<M>, buffer: &mut [()]) {
         let _ = shard;
@@ -93,7 +93,7 @@ pub struct Clear;
 impl<M: MapShard> Visit<Part<M>, ()> for Clear {
     ghost use Rattle.share_visits.specs.Visits.{Clears};
 
-    ghost does = { Clears M.pairs };
+    ghost does = { Clears M.pairs M.limit };
 
     fn visit(&mut self, shard: usize, value: &mut Part<M>, buffer: &mut [()]) {
         let _ = shard;

@@ -2,7 +2,7 @@
 //!
 //! Tested in `tools/c-library`.
 
-ghost use Rattle.std.specs.Prelude.{◌≡◌, ◌==◌, ℕ, [], List, Some, IfSome, IsTrue, IsFalse, length, reverse};
+ghost use Rattle.std.specs.Prelude.{◌≡◌, ◌==◌, ◌≤◌, ◌*◌, ℕ, [], List, Some, IfSome, IsTrue, IsFalse, length, reverse};
 ghost use Rattle.share_rule.specs.inner.Hold.{StepsBy};
 ghost use Rattle.share_shards.specs.inner.SeatView.{ShardSeat};
 ghost use Rattle.share_shards.specs.inner.Steps.{HeldBy, IsIdle, pairs_of};
@@ -35,8 +35,8 @@ fn numbers(shards: usize) -> &'static [usize]
 }
 
 pub(crate) fn all_shards<M: MapShard + Drop>(lock: &PartLock<M>) -> &'static [usize]
-    requires { IsCount lock.now.slots }
-    ensures { reverse result.now ≡ down lock.now.slots }
+    requires { IsCount lock.now.table.slots }
+    ensures { reverse result.now ≡ down lock.now.table.slots }
 {
     numbers(lock.shards())
 }
@@ -44,13 +44,13 @@ pub(crate) fn all_shards<M: MapShard + Drop>(lock: &PartLock<M>) -> &'static [us
 /// Takes the locks of all shards, each at one of so many tries. `false` if one stays taken, and changes nothing.
 #[tactic(auto, using(crate::proofs::Numbers::below_all))]
 pub fn take_all<M: MapShard + Drop>(lock: &PartLock<M>, seat: &mut PartSeat<M>, tries: u32) -> bool
-    requires table { seat.old.table_id ≡ lock.now }
-    requires shards { IsCount lock.now.slots }
+    requires table { seat.old.table_id ≡ lock.now.table }
+    requires shards { IsCount lock.now.table.slots }
     requires idle { IsIdle seat.old.me }
     ensures table { seat.new.table_id ≡ seat.old.table_id }
-    ensures took { IsTrue result → TookAll M.pairs lock.now.slots seat.old.me seat.new.me }
+    ensures took { IsTrue result → TookAll M.pairs M.limit lock.now seat.old.me seat.new.me }
     ensures all { IsTrue result
-        → Contains M.pairs lock.now.slots (pairs_of seat.new.me.0) seat.new.me.1 }
+        → Contains M.pairs M.limit lock.now (pairs_of seat.new.me.0) seat.new.me.1 }
     ensures missed { IsFalse result → seat.new.me ≡ seat.old.me }
 {
     lock.take(all_shards::<M>(lock), seat, tries)
@@ -63,14 +63,14 @@ pub fn release_all<D: Done<u64>, M: MapShard + Drop, W>(
     seat: &mut PartSeat<M>,
     work: &W,
 )
-    requires table { seat.old.table_id ≡ lock.now }
-    requires shards { IsCount lock.now.slots }
+    requires table { seat.old.table_id ≡ lock.now.table }
+    requires shards { IsCount lock.now.table.slots }
     requires may { (m : ShardSeat ℕ (Part M)) × (n : ShardSeat ℕ (Part M)) × (end : Pairs ℕ)
-        × TookAll M.pairs lock.now.slots m n × (seat.old.me.0 ≡ n.0)
-        × Contains M.pairs lock.now.slots end seat.old.me.1
+        × TookAll M.pairs M.limit lock.now m n × (seat.old.me.0 ≡ n.0)
+        × Contains M.pairs M.limit lock.now end seat.old.me.1
         × StepsBy (λ a b. a == b) D.operations (pairs_of n.0) end }
     ensures table { seat.new.table_id ≡ seat.old.table_id }
-    ensures held { (m n : ShardSeat ℕ (Part M)) → TookAll M.pairs lock.now.slots m n
+    ensures held { (m n : ShardSeat ℕ (Part M)) → TookAll M.pairs M.limit lock.now m n
         → seat.old.me.0 ≡ n.0 → HeldBy (λ a b. a == b) D.operations m seat.new.me }
     ensures idle { IsIdle seat.new.me }
 {
@@ -79,12 +79,12 @@ pub fn release_all<D: Done<u64>, M: MapShard + Drop, W>(
 
 /// How many pairs there are.
 pub fn pair_count<M: MapShard + Drop>(lock: &PartLock<M>, seat: &mut PartSeat<M>) -> u128
-    requires table { seat.old.table_id ≡ lock.now }
-    requires shards { IsCount lock.now.slots }
-    requires all { (all : Pairs ℕ) × Contains M.pairs lock.now.slots all seat.old.me.1 }
+    requires table { seat.old.table_id ≡ lock.now.table }
+    requires shards { IsCount lock.now.table.slots }
+    requires all { (all : Pairs ℕ) × Contains M.pairs M.limit lock.now all seat.old.me.1 }
     ensures table { seat.new.table_id ≡ seat.old.table_id }
     ensures same { seat.new.me ≡ seat.old.me }
-    ensures count { (all : Pairs ℕ) → Contains M.pairs lock.now.slots all seat.old.me.1
+    ensures count { (all : Pairs ℕ) → Contains M.pairs M.limit lock.now all seat.old.me.1
         → result ≡ length all }
 {
     let mut tally = Tally { pairs: 0 };
@@ -92,17 +92,18 @@ pub fn pair_count<M: MapShard + Drop>(lock: &PartLock<M>, seat: &mut PartSeat<M>
     tally.pairs
 }
 
-/// What the maps of all shards are charged, in bytes. It saturates at `u128::MAX`.
+/// What the maps of all shards are charged, in bytes. It saturates at `u128::MAX`, and is within their limits.
 pub fn charged<M: MapShard + Drop>(lock: &PartLock<M>, seat: &mut PartSeat<M>) -> u128
-    requires table { seat.old.table_id ≡ lock.now }
-    requires shards { IsCount lock.now.slots }
-    requires all { (all : Pairs ℕ) × Contains M.pairs lock.now.slots all seat.old.me.1 }
+    requires table { seat.old.table_id ≡ lock.now.table }
+    requires shards { IsCount lock.now.table.slots }
+    requires all { (all : Pairs ℕ) × Contains M.pairs M.limit lock.now all seat.old.me.1 }
     ensures table { seat.new.table_id ≡ seat.old.table_id }
     ensures same { seat.new.me ≡ seat.old.me }
-    ensures bytes { (all : Pairs ℕ) → Contains M.pairs lock.now.slots all seat.old.me.1
-        → (maps : List M) × (length maps ≡ lock.now.slots)
+    ensures bytes { (all : Pairs ℕ) → Contains M.pairs M.limit lock.now all seat.old.me.1
+        → (maps : List M) × (length maps ≡ lock.now.table.slots)
         × (length all ≡ sum_of (λ map. length (M.pairs map)) maps)
         × IsChargeOfAll M.charges maps result }
+    ensures within { result ≤ lock.now.table.slots * lock.now.limit }
 {
     let mut charge = Charge { bytes: 0 };
     lock.each::<(), Charge>(all_shards::<M>(lock), seat, &mut charge, &mut []);
@@ -115,13 +116,13 @@ pub(crate) fn nearest_in_run<M: MapShard + Drop>(
     seat: &mut PartSeat<M>,
     near: Near,
 ) -> Option<(u64, u64)>
-    requires table { seat.old.table_id ≡ lock.now }
-    requires shards { IsCount lock.now.slots }
-    requires all { (all : Pairs ℕ) × Contains M.pairs lock.now.slots all seat.old.me.1 }
+    requires table { seat.old.table_id ≡ lock.now.table }
+    requires shards { IsCount lock.now.table.slots }
+    requires all { (all : Pairs ℕ) × Contains M.pairs M.limit lock.now all seat.old.me.1 }
     ensures table { seat.new.table_id ≡ seat.old.table_id }
     ensures same { seat.new.me ≡ seat.old.me }
     ensures found { IfSome result (λ pair. (all : Pairs ℕ)
-        → Contains M.pairs lock.now.slots all seat.old.me.1
+        → Contains M.pairs M.limit lock.now all seat.old.me.1
         → pair_near all (near_of near) ≡ Some pair) }
 {
     let key = key_of(near)?;
@@ -139,12 +140,12 @@ fn nearest_of_all<M: MapShard + Drop>(
     seat: &mut PartSeat<M>,
     near: Near,
 ) -> Option<(u64, u64)>
-    requires table { seat.old.table_id ≡ lock.now }
-    requires shards { IsCount lock.now.slots }
-    requires all { (all : Pairs ℕ) × Contains M.pairs lock.now.slots all seat.old.me.1 }
+    requires table { seat.old.table_id ≡ lock.now.table }
+    requires shards { IsCount lock.now.table.slots }
+    requires all { (all : Pairs ℕ) × Contains M.pairs M.limit lock.now all seat.old.me.1 }
     ensures table { seat.new.table_id ≡ seat.old.table_id }
     ensures same { seat.new.me ≡ seat.old.me }
-    ensures pair { (all : Pairs ℕ) → Contains M.pairs lock.now.slots all seat.old.me.1
+    ensures pair { (all : Pairs ℕ) → Contains M.pairs M.limit lock.now all seat.old.me.1
         → result ≡ pair_near all (near_of near) }
 {
     let mut find = Find { near, pair: None };
@@ -158,12 +159,12 @@ pub fn nearest<M: MapShard + Drop>(
     seat: &mut PartSeat<M>,
     near: Near,
 ) -> Option<(u64, u64)>
-    requires table { seat.old.table_id ≡ lock.now }
-    requires shards { IsCount lock.now.slots }
-    requires all { (all : Pairs ℕ) × Contains M.pairs lock.now.slots all seat.old.me.1 }
+    requires table { seat.old.table_id ≡ lock.now.table }
+    requires shards { IsCount lock.now.table.slots }
+    requires all { (all : Pairs ℕ) × Contains M.pairs M.limit lock.now all seat.old.me.1 }
     ensures table { seat.new.table_id ≡ seat.old.table_id }
     ensures same { seat.new.me ≡ seat.old.me }
-    ensures pair { (all : Pairs ℕ) → Contains M.pairs lock.now.slots all seat.old.me.1
+    ensures pair { (all : Pairs ℕ) → Contains M.pairs M.limit lock.now all seat.old.me.1
         → result ≡ pair_near all (near_of near) }
 {
     if lock.shards() > 1 {
@@ -177,13 +178,13 @@ pub fn nearest<M: MapShard + Drop>(
 
 // Removes the pair at the key, if there is one.
 fn remove_key<M: MapShard + Drop>(lock: &PartLock<M>, seat: &mut PartSeat<M>, key: u64)
-    requires table { seat.old.table_id ≡ lock.now }
-    requires shards { IsCount lock.now.slots }
-    requires all { (all : Pairs ℕ) × Contains M.pairs lock.now.slots all seat.old.me.1 }
+    requires table { seat.old.table_id ≡ lock.now.table }
+    requires shards { IsCount lock.now.table.slots }
+    requires all { (all : Pairs ℕ) × Contains M.pairs M.limit lock.now all seat.old.me.1 }
     ensures table { seat.new.table_id ≡ seat.old.table_id }
     ensures view { seat.new.me.0 ≡ seat.old.me.0 }
-    ensures left { (all : Pairs ℕ) → Contains M.pairs lock.now.slots all seat.old.me.1
-        → Contains M.pairs lock.now.slots (without all key) seat.new.me.1 }
+    ensures left { (all : Pairs ℕ) → Contains M.pairs M.limit lock.now all seat.old.me.1
+        → Contains M.pairs M.limit lock.now (without all key) seat.new.me.1 }
 {
     let shard = shard_of_key(key, lock.shards());
     let mut remove = Remove { key };
@@ -196,15 +197,15 @@ pub fn pop<M: MapShard + Drop>(
     seat: &mut PartSeat<M>,
     near: Near,
 ) -> Option<(u64, u64)>
-    requires table { seat.old.table_id ≡ lock.now }
-    requires shards { IsCount lock.now.slots }
-    requires all { (all : Pairs ℕ) × Contains M.pairs lock.now.slots all seat.old.me.1 }
+    requires table { seat.old.table_id ≡ lock.now.table }
+    requires shards { IsCount lock.now.table.slots }
+    requires all { (all : Pairs ℕ) × Contains M.pairs M.limit lock.now all seat.old.me.1 }
     ensures table { seat.new.table_id ≡ seat.old.table_id }
     ensures view { seat.new.me.0 ≡ seat.old.me.0 }
-    ensures pair { (all : Pairs ℕ) → Contains M.pairs lock.now.slots all seat.old.me.1
+    ensures pair { (all : Pairs ℕ) → Contains M.pairs M.limit lock.now all seat.old.me.1
         → result ≡ pair_near all (near_of near) }
-    ensures left { (all : Pairs ℕ) → Contains M.pairs lock.now.slots all seat.old.me.1
-        → Contains M.pairs lock.now.slots (without_pair all result) seat.new.me.1 }
+    ensures left { (all : Pairs ℕ) → Contains M.pairs M.limit lock.now all seat.old.me.1
+        → Contains M.pairs M.limit lock.now (without_pair all result) seat.new.me.1 }
 {
     let pair = nearest(lock, seat, near);
     if let Some((key, _)) = pair {
@@ -215,12 +216,12 @@ pub fn pop<M: MapShard + Drop>(
 
 /// Removes all pairs.
 pub fn clear<M: MapShard + Drop>(lock: &PartLock<M>, seat: &mut PartSeat<M>)
-    requires table { seat.old.table_id ≡ lock.now }
-    requires shards { IsCount lock.now.slots }
-    requires all { (all : Pairs ℕ) × Contains M.pairs lock.now.slots all seat.old.me.1 }
+    requires table { seat.old.table_id ≡ lock.now.table }
+    requires shards { IsCount lock.now.table.slots }
+    requires all { (all : Pairs ℕ) × Contains M.pairs M.limit lock.now all seat.old.me.1 }
     ensures table { seat.new.table_id ≡ seat.old.table_id }
     ensures view { seat.new.me.0 ≡ seat.old.me.0 }
-    ensures none { Contains M.pairs lock.now.slots [] seat.new.me.1 }
+    ensures none { Contains M.pairs M.limit lock.now [] seat.new.me.1 }
 {
     let mut clear = Clear {};
     lock.each::<(), Clear>(all_shards::<M>(lock), seat, &mut clear, &mut []);

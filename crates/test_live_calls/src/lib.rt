@@ -4,6 +4,10 @@
 #[cfg(test)]
 mod again;
 #[cfg(test)]
+mod computes;
+#[cfg(test)]
+mod copies;
+#[cfg(test)]
 mod detached;
 #[cfg(test)]
 mod exchanges;
@@ -11,6 +15,8 @@ mod exchanges;
 mod limits;
 #[cfg(test)]
 mod narrowed;
+#[cfg(test)]
+mod pool;
 #[cfg(test)]
 mod tests;
 #[cfg(test)]

@@ -66,7 +66,7 @@ fn a_map_has_a_segment_at_least(rt: HostRuntime) -> Result<(), Fail> {
     assert!(rt; Congee::with_limit(rt.alloc(), 0).is_err());
     assert!(rt; Congee::with_limit(rt.alloc(), 8_191).is_err());
     let map = Congee::with_limit(rt.alloc(), 8_192)?;
-    assert!(rt; map.limit() == 8_192 && map.charged() == 8_192);
+    assert!(rt; map.limit() == 8_192 && map.usage() == (8_192, 8_192));
     let mut guard = map.pin();
     assert!(rt; map.insert(rt.alloc(), &mut guard, 7, 70) == Err(Refusal::OutOfMemory));
     assert!(rt; map.get(&mut guard, 7) == Ok(None));
@@ -77,9 +77,9 @@ fn a_map_has_a_segment_at_least(rt: HostRuntime) -> Result<(), Fail> {
 fn a_map_without_a_limit_has_the_greatest(rt: HostRuntime) -> Result<(), Fail> {
     let map = Congee::new(rt.alloc())?;
     let mut guard = map.pin();
-    assert!(rt; map.limit() == u64::MAX && map.charged() == 8_192);
+    assert!(rt; map.limit() == u64::MAX && map.usage() == (8_192, u64::MAX));
     assert!(rt; map.insert(rt.alloc(), &mut guard, 7, 70) == Ok(None));
-    assert!(rt; map.charged() == 24_576);
+    assert!(rt; map.usage().0 == 24_576);
     Ok(())
 }
 
@@ -104,11 +104,11 @@ fn a_full_map_keeps_its_pairs(rt: HostRuntime) -> Result<(), Fail> {
     let mut guard = map.pin();
     let count = stored(&map, rt.alloc(), &mut guard);
     assert!(rt; count > 1_000 && count < 13_000);
-    assert!(rt; map.charged() == 122_880);
+    assert!(rt; map.usage().0 == 122_880);
     assert!(rt; is_sound_when_full(&map, rt.alloc(), &mut guard, count));
     assert!(rt; replaced(&map, rt.alloc(), &mut guard, count) == count);
     assert!(rt; found(&map, &mut guard, count) == count);
-    assert!(rt; map.charged() == 122_880);
+    assert!(rt; map.usage().0 == 122_880);
     Ok(())
 }
 

@@ -4,12 +4,32 @@
 #[cfg(test)]
 mod chains;
 #[cfg(test)]
+mod counts;
+#[cfg(test)]
 mod guards;
 #[cfg(test)]
 mod limits;
 #[cfg(test)]
+mod moved;
+#[cfg(test)]
+mod moved_words;
+#[cfg(test)]
+mod neighbours;
+#[cfg(test)]
 mod noted;
+#[cfg(test)]
+mod ranges;
+#[cfg(test)]
+mod refusals;
+#[cfg(test)]
+mod snapshots;
+#[cfg(test)]
+mod sparse;
+#[cfg(test)]
+mod threads;
 #[cfg(test)]
 mod tries;
 #[cfg(test)]
 mod words;
+#[cfg(test)]
+mod writers;

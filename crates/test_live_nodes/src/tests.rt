@@ -258,7 +258,7 @@ fn a_reader_of_a_leaf_that_is_made_anew_sees_whole_pairs(rt: HostRuntime) {
 // The bytes that all segments of some nodes have.
 fn charged(nodes: &Nodes) -> u64 {
     let mut seat = enter(nodes);
-    nodes.charged(&mut seat)
+    nodes.usage(&mut seat).0
 }
 
 // How many leaves come in, each in a segment of its own, below a limit, and the bytes of these segments.

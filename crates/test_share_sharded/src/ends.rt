@@ -48,7 +48,7 @@ type Map = Congee<u64, u64>;
 
 // What the call finds, or `None` where it isn't made.
 fn tried(map: &Map, guard: &mut Guard, call: Call) -> Option<Option<(u64, u64)>>
-    requires { guard.old.table ≡ map.now }
+    requires { guard.old.table ≡ map.now.table }
     ensures { guard.new.table ≡ guard.old.table }
 {
     match call {
@@ -65,7 +65,7 @@ fn tried(map: &Map, guard: &mut Guard, call: Call) -> Option<Option<(u64, u64)>>
 
 // The same by the forms that go on.
 fn found<R: Wait>(rt: &R, map: &Map, guard: &mut Guard, call: Call) -> Option<(u64, u64)>
-    requires { guard.old.table ≡ map.now }
+    requires { guard.old.table ≡ map.now.table }
     ensures { guard.new.table ≡ guard.old.table }
 {
     match call {
@@ -88,7 +88,7 @@ fn by_form<R: Wait>(
     call: Call,
     tries: bool,
 ) -> Option<Option<(u64, u64)>>
-    requires { guard.old.table ≡ map.now }
+    requires { guard.old.table ≡ map.now.table }
     ensures { guard.new.table ≡ guard.old.table }
 {
     if tries {
@@ -100,7 +100,7 @@ fn by_form<R: Wait>(
 
 // The number of the rows before the first wrong one.
 fn right_rows<R: Wait>(rt: &R, map: &Map, guard: &mut Guard, tries: bool) -> usize
-    requires { guard.old.table ≡ map.now }
+    requires { guard.old.table ≡ map.now.table }
 {
     let mut right = 0;
     for (call, expected) in ROWS {
@@ -114,7 +114,7 @@ fn right_rows<R: Wait>(rt: &R, map: &Map, guard: &mut Guard, tries: bool) -> usi
 
 // Whether these pairs are new.
 fn filled(map: &Map, guard: &mut Guard) -> bool
-    requires { guard.old.table ≡ map.now }
+    requires { guard.old.table ≡ map.now.table }
     ensures { guard.new.table ≡ guard.old.table }
 {
     let mut all = true;

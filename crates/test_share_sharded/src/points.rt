@@ -62,7 +62,7 @@ type Map = Congee<Tens, Tens>;
 
 // What the call returns, or `None` where it isn't made.
 fn tried(map: &Map, guard: &mut Guard, call: Call) -> Option<Option<Tens>>
-    requires { guard.old.table ≡ map.now }
+    requires { guard.old.table ≡ map.now.table }
     ensures { guard.new.table ≡ guard.old.table }
 {
     match call {
@@ -76,7 +76,7 @@ fn tried(map: &Map, guard: &mut Guard, call: Call) -> Option<Option<Tens>>
 
 // The same by the forms that go on.
 fn made<R: Wait>(rt: &R, map: &Map, guard: &mut Guard, call: Call) -> Option<Option<Tens>>
-    requires { guard.old.table ≡ map.now }
+    requires { guard.old.table ≡ map.now.table }
     ensures { guard.new.table ≡ guard.old.table }
 {
     match call {
@@ -96,7 +96,7 @@ fn by_form<R: Wait>(
     call: Call,
     tries: bool,
 ) -> Option<Option<Tens>>
-    requires { guard.old.table ≡ map.now }
+    requires { guard.old.table ≡ map.now.table }
     ensures { guard.new.table ≡ guard.old.table }
 {
     if tries {
@@ -108,7 +108,7 @@ fn by_form<R: Wait>(
 
 // The number of the rows before the first wrong one.
 fn right_rows<R: Wait>(rt: &R, map: &Map, guard: &mut Guard, tries: bool) -> usize
-    requires { guard.old.table ≡ map.now }
+    requires { guard.old.table ≡ map.now.table }
 {
     let mut right = 0;
     for (call, expected) in ROWS {
@@ -155,7 +155,7 @@ fn exchanged<R: Wait>(
     new: Option<Tens>,
     tries: bool,
 ) -> Option<Result<Option<Tens>, Option<Tens>>>
-    requires { guard.old.table ≡ map.now }
+    requires { guard.old.table ≡ map.now.table }
     ensures { guard.new.table ≡ guard.old.table }
 {
     if tries {
@@ -167,7 +167,7 @@ fn exchanged<R: Wait>(
 
 // The number of the exchanges before the first wrong one.
 fn right_exchanges<R: Wait>(rt: &R, map: &Map, guard: &mut Guard, tries: bool) -> usize
-    requires { guard.old.table ≡ map.now }
+    requires { guard.old.table ≡ map.now.table }
 {
     let mut right = 0;
     for (old, new, expected) in EXCHANGES {

@@ -11,7 +11,7 @@ type Map = Congee<u64, u64>;
 
 // Whether the keys 0 to 3 are new: they fill one leaf.
 fn filled(map: &Map, guard: &mut Guard) -> bool
-    requires { guard.old.table ≡ map.now }
+    requires { guard.old.table ≡ map.now.table }
     ensures { guard.new.table ≡ guard.old.table }
 {
     let mut all = true;
@@ -23,7 +23,7 @@ fn filled(map: &Map, guard: &mut Guard) -> bool
 
 // The key 4, for which the leaf has to grow, is refused by each call.
 fn refused(map: &Map, guard: &mut Guard) -> bool
-    requires { guard.old.table ≡ map.now }
+    requires { guard.old.table ≡ map.now.table }
     ensures { guard.new.table ≡ guard.old.table }
 {
     let no = Err(Refusal::OutOfMemory);
@@ -34,7 +34,7 @@ fn refused(map: &Map, guard: &mut Guard) -> bool
 
 // The same by the forms that go on.
 fn refused_at_last<R: Wait>(rt: &R, map: &Map, guard: &mut Guard) -> bool
-    requires { guard.old.table ≡ map.now }
+    requires { guard.old.table ≡ map.now.table }
     ensures { guard.new.table ≡ guard.old.table }
 {
     let no = Err(OOMError::new());
@@ -45,7 +45,7 @@ fn refused_at_last<R: Wait>(rt: &R, map: &Map, guard: &mut Guard) -> bool
 
 // What a present key needs no node for.
 fn changed(map: &Map, guard: &mut Guard) -> bool
-    requires { guard.old.table ≡ map.now }
+    requires { guard.old.table ≡ map.now.table }
     ensures { guard.new.table ≡ guard.old.table }
 {
     map.try_insert(guard, 0, 5) == Ok(Some(4))
@@ -65,6 +65,7 @@ fn a_node_past_the_limit_is_refused(rt: HostRuntime) -> Result<(), Fail> {
         assert!(rt; filled(&map, &mut guard));
         assert!(rt; refused(&map, &mut guard) && refused_at_last(&rt, &map, &mut guard));
         assert!(rt; changed(&map, &mut guard));
+        assert!(rt; map.limit() == limit && map.charged(&rt, &mut guard) <= u128::from(limit));
     }
     Ok(())
 }
@@ -74,6 +75,19 @@ fn a_limit_below_the_roots_is_refused(rt: HostRuntime) -> Result<(), Fail> {
     for (shards, least) in [(Shards::One, 2104), (Shards::SixtyFour, 64 * 2104)] {
         assert!(rt; Map::new(rt.alloc(), shards, least - 1).is_err());
         assert!(rt; Map::new(rt.alloc(), shards, least).is_ok());
+    }
+    Ok(())
+}
+
+#[test]
+fn a_limit_is_that_of_all_shards(rt: HostRuntime) -> Result<(), Fail> {
+    for (shards, given, limit) in [
+        (Shards::One, 2104, 2104),
+        (Shards::One, u64::MAX, u64::MAX),
+        (Shards::SixtyFour, 64 * 2104 + 63, 64 * 2104),
+        (Shards::SixtyFour, u64::MAX, u64::MAX - 63),
+    ] {
+        assert!(rt; Map::new(rt.alloc(), shards, given)?.limit() == limit);
     }
     Ok(())
 }

@@ -77,7 +77,7 @@ fn holds<R: Wait>(rt: &R, map: &Map) -> Option<bool> {
 
 // Looks the key up until a call is busy.
 fn is_busy(map: &Map, guard: &mut Guard) -> bool
-    requires { guard.old.table ≡ map.now }
+    requires { guard.old.table ≡ map.now.table }
     ensures { guard.new.table ≡ guard.old.table }
 {
     for _ in 0..200_000_000u32 {

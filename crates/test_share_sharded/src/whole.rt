@@ -44,7 +44,7 @@ const ROWS: [(Call, Page); 9] = [
 
 // The page of a call, or `None` where it isn't made.
 fn tried(map: &Map, guard: &mut Guard, call: Call) -> Option<Page>
-    requires { guard.old.table ≡ map.now }
+    requires { guard.old.table ≡ map.now.table }
     ensures { guard.new.table ≡ guard.old.table }
 {
     let mut page = [NO; 3];
@@ -58,7 +58,7 @@ fn tried(map: &Map, guard: &mut Guard, call: Call) -> Option<Page>
 
 // The same by the forms that go on.
 fn listed<R: Wait>(rt: &R, map: &Map, guard: &mut Guard, call: Call) -> Page
-    requires { guard.old.table ≡ map.now }
+    requires { guard.old.table ≡ map.now.table }
     ensures { guard.new.table ≡ guard.old.table }
 {
     let mut page = [NO; 3];
@@ -72,7 +72,7 @@ fn listed<R: Wait>(rt: &R, map: &Map, guard: &mut Guard, call: Call) -> Page
 
 // By one of the two forms.
 fn by_form<R: Wait>(rt: &R, map: &Map, guard: &mut Guard, call: Call, tries: bool) -> Option<Page>
-    requires { guard.old.table ≡ map.now }
+    requires { guard.old.table ≡ map.now.table }
     ensures { guard.new.table ≡ guard.old.table }
 {
     if tries {
@@ -84,7 +84,7 @@ fn by_form<R: Wait>(rt: &R, map: &Map, guard: &mut Guard, call: Call, tries: boo
 
 // The number of the rows before the first wrong one.
 fn right_rows<R: Wait>(rt: &R, map: &Map, guard: &mut Guard, tries: bool) -> usize
-    requires { guard.old.table ≡ map.now }
+    requires { guard.old.table ≡ map.now.table }
     ensures { guard.new.table ≡ guard.old.table }
 {
     let mut right = 0;
@@ -99,7 +99,7 @@ fn right_rows<R: Wait>(rt: &R, map: &Map, guard: &mut Guard, tries: bool) -> usi
 
 // Whether these pairs are new.
 fn filled(map: &Map, guard: &mut Guard) -> bool
-    requires { guard.old.table ≡ map.now }
+    requires { guard.old.table ≡ map.now.table }
     ensures { guard.new.table ≡ guard.old.table }
 {
     let mut all = true;
@@ -127,7 +127,7 @@ fn ranges_both_ways(rt: HostRuntime) -> Result<(), Fail> {
 
 // How many pairs there are, whether there is none, and the bytes charged.
 fn counted(map: &Map, guard: &mut Guard) -> Option<(u128, bool, u128)>
-    requires { guard.old.table ≡ map.now }
+    requires { guard.old.table ≡ map.now.table }
     ensures { guard.new.table ≡ guard.old.table }
 {
     let count = map.try_value_count(guard).ok()?;
@@ -137,7 +137,7 @@ fn counted(map: &Map, guard: &mut Guard) -> Option<(u128, bool, u128)>
 
 // The same by the forms that go on.
 fn counts<R: Wait>(rt: &R, map: &Map, guard: &mut Guard) -> (u128, bool, u128)
-    requires { guard.old.table ≡ map.now }
+    requires { guard.old.table ≡ map.now.table }
     ensures { guard.new.table ≡ guard.old.table }
 {
     let count = map.value_count(rt, guard);
@@ -148,7 +148,7 @@ fn counts<R: Wait>(rt: &R, map: &Map, guard: &mut Guard) -> (u128, bool, u128)
 // Whether a new map is charged for its roots alone, 2,104 bytes each. Whether four pairs are counted and cleared. Whether
 // they are once more, by the other form.
 fn cleared<R: Wait>(rt: &R, map: &Map, guard: &mut Guard, roots: u128) -> (bool, bool, bool)
-    requires { guard.old.table ≡ map.now }
+    requires { guard.old.table ≡ map.now.table }
     ensures { guard.new.table ≡ guard.old.table }
 {
     let empty = (0, true, roots);

@@ -21,6 +21,9 @@ use std::marker::Brand;
 // All shards.
 const ALL: [usize; 4] = [0, 1, 2, 3];
 
+// The limit of each shard, which cells don't have.
+const LIMIT: u64 = 0;
+
 // How often a lock is tried.
 const TRIES: u32 = 200;
 
@@ -37,7 +40,7 @@ impl Sharded<u64> for Cell {
 
     ghost same = { same };
 
-    ghost content = { λ c m. m ≡ cell_pairs c.key c.value };
+    ghost content = { λ _ c m. m ≡ cell_pairs c.key c.value };
 
     ghost shard = { shard_of };
 }
@@ -49,7 +52,7 @@ pub type CellSeat = LockSeat<u64, Cell>;
 #[derive(Drop)]
 pub struct Cells {
     lock: ShardLock<u64, Cell>,
-    ghost four: { lock.slots ≡ 4 },
+    ghost four: { lock.table.slots ≡ 4 },
 }
 
 // The value at the key, if the cell is the key's and has one.
@@ -252,13 +255,13 @@ impl Cells {
             value: None,
         }));
         Ok(Cells {
-            lock: ShardLock::new(alloc, &[0; 32], slots)?,
+            lock: ShardLock::new(alloc, &[0; 32], slots, LIMIT)?,
         })
     }
 
     /// A seat of a caller of its own.
     pub fn seat(&self) -> CellSeat
-        ensures table { result.table_id ≡ self.now.lock }
+        ensures table { result.table_id ≡ self.now.lock.table }
         ensures idle { IsIdle result.me }
     {
         self.lock.seat()
@@ -266,7 +269,7 @@ impl Cells {
 
     /// The key's value. `None` if the shard is busy.
     pub fn get(&self, seat: &mut CellSeat, key: u64) -> Option<Option<u64>>
-        requires table { seat.old.table_id ≡ self.now.lock }
+        requires table { seat.old.table_id ≡ self.now.lock.table }
         requires idle { IsIdle seat.old.me }
         ensures table { seat.new.table_id ≡ seat.old.table_id }
         ensures made { IfSome result (λ value.
@@ -287,7 +290,7 @@ impl Cells {
     /// Puts a value at the key. `Some` has whether there is a cell for it, with its value before. `None` if the shard is
     /// busy.
     pub fn put(&self, seat: &mut CellSeat, key: u64, value: u64) -> Option<Option<Option<u64>>>
-        requires table { seat.old.table_id ≡ self.now.lock }
+        requires table { seat.old.table_id ≡ self.now.lock.table }
         requires idle { IsIdle seat.old.me }
         ensures table { seat.new.table_id ≡ seat.old.table_id }
         ensures made { IfSome result (λ before.
@@ -311,7 +314,7 @@ impl Cells {
 
     /// How many pairs there are, at one moment. `None` if a shard is busy.
     pub fn count(&self, seat: &mut CellSeat) -> Option<u64>
-        requires table { seat.old.table_id ≡ self.now.lock }
+        requires table { seat.old.table_id ≡ self.now.lock.table }
         requires idle { IsIdle seat.old.me }
         ensures table { seat.new.table_id ≡ seat.old.table_id }
         ensures made { IfSome result (λ n.
@@ -330,7 +333,7 @@ impl Cells {
 
     /// The pair with the least key, at one moment. `None` if a shard is busy.
     pub fn first(&self, seat: &mut CellSeat) -> Option<Option<(u64, u64)>>
-        requires table { seat.old.table_id ≡ self.now.lock }
+        requires table { seat.old.table_id ≡ self.now.lock.table }
         requires idle { IsIdle seat.old.me }
         ensures table { seat.new.table_id ≡ seat.old.table_id }
         ensures made { IfSome result (λ pair.
@@ -349,7 +352,7 @@ impl Cells {
 
     /// Removes the pair with the least key, and returns it, at one moment. `None` if a shard is busy.
     pub fn pop_first(&self, seat: &mut CellSeat) -> Option<Option<(u64, u64)>>
-        requires table { seat.old.table_id ≡ self.now.lock }
+        requires table { seat.old.table_id ≡ self.now.lock.table }
         requires idle { IsIdle seat.old.me }
         ensures table { seat.new.table_id ≡ seat.old.table_id }
         ensures made { IfSome result (λ pair. HeldBy same (popping pair) seat.old.me seat.new.me) }
@@ -370,7 +373,7 @@ impl Cells {
 
     /// Removes all pairs, at one moment. `false` if a shard is busy.
     pub fn clear(&self, seat: &mut CellSeat) -> bool
-        requires table { seat.old.table_id ≡ self.now.lock }
+        requires table { seat.old.table_id ≡ self.now.lock.table }
         requires idle { IsIdle seat.old.me }
         ensures table { seat.new.table_id ≡ seat.old.table_id }
         ensures made { IsTrue result → (pairs : Pairs ℕ)

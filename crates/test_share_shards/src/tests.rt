@@ -51,7 +51,7 @@ fn put_often(cells: &Cells, key: u64, rounds: u64) -> u64 {
 
 // Tries until the value is put.
 fn put_once(cells: &Cells, seat: &mut CellSeat, key: u64, value: u64) -> bool
-    requires table { seat.old.table_id ≡ cells.now.lock }
+    requires table { seat.old.table_id ≡ cells.now.lock.table }
     requires idle { IsIdle seat.old.me }
     ensures table { seat.new.table_id ≡ seat.old.table_id }
     ensures idle { IsIdle seat.new.me }

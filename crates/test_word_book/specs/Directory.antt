@@ -39,10 +39,10 @@ KnowsKey (compares k old new) v n more w = w ≡ v
 
 -- a book as numbers, which tag the slots of its segments
 abbrev pub numbers : Book → List ℕ
-numbers b = b.number ∷ b.views_name ∷ b.words_name ∷ []
+numbers b = b.number ∷ b.views_name ∷ b.words_name ∷ b.limit ∷ []
 
 abbrev pub book_of : List ℕ → Book
-book_of tag = record { number = first tag; views_name = first (others tag); words_name = first (others (others tag)) }
+book_of tag = record { number = first tag; views_name = first (others tag); words_name = first (others (others tag)); limit = first (others (others (others tag))) }
 
 -- these are words by keys from k on
 abbrev pub AreWords : ℕ → Book → List Name → Type 0

@@ -87,7 +87,7 @@ fn segment_of(mut words: Vec<Word<u64, Directed>>, mut pens: Pens) -> Segment
 impl Directory {
     /// A directory that may have up to `most` segments, and has none.
     pub fn new(alloc: Global, most: usize) -> Result<Directory, AllocError> {
-        let (door, mut pens) = Seat::open(2);
+        let (door, mut pens) = Seat::open(2, 0);
         let count = Word::of(&mut pens);
         let root = Word::of(&mut pens);
         let slots = slots_of(alloc, most, &root)?;

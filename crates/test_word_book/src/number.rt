@@ -62,7 +62,7 @@ pub struct Number {
 impl Number {
     /// 0, and free.
     pub fn new() -> Number {
-        let (door, mut pens) = Seat::open(2);
+        let (door, mut pens) = Seat::open(2, 0);
         let lock = Word::of(&mut pens);
         let number = Word::of(&mut pens);
         Number { lock, number, door }

@@ -14,7 +14,7 @@ ghost use Rattle.text_serve.specs.Serve.{AsksRun, AsksHelp, AsksSchedule, AsksNo
 ghost use Rattle.text_serve.specs.inner.Asked.{AsksMode};
 
 use face_typed::typed_congee::Congee;
-use node_table::allocator::{Allocator, Budget, DefaultAllocator};
+use node_table::allocator::Budget;
 use spec_map::error::OOMError;
 use std::alloc::Global;
 use std::io::{Read, Write};
@@ -89,7 +89,11 @@ pub fn serve<R: Read, W: Write, E: Write>(
     ensures untouched { result ≡ 2 → (input.new ≡ input.old) × (output.new ≡ output.old) }
 {
     match asked_by(words) {
-        Some(Mode::Run(limit, stats)) => serve_run(alloc, limit, stats, input, output, errors),
+        Some(Mode::Run(limit, stats)) => {
+            // So that the program has one copy of the map's code, each map has a limit.
+            let limit = limit.unwrap_or(u64::MAX);
+            serve_run(alloc, limit, stats, input, output, errors)
+        }
         Some(Mode::Help) => help(output, errors),
         Some(Mode::Schedule(detail)) => {
             end_schedule(errors, schedule(alloc, detail, input, output))
@@ -123,10 +127,11 @@ fn write_help<W: Write>(output: &mut Watched<W>) -> Result<(), Failed>
     output.flush()
 }
 
-// A run with this limit, if there is one.
+// A run whose map has this limit in bytes, which may be too small for any map. Writes why the run failed, if it did, or the
+// statistics of its map, where they are wanted, and returns the status.
 fn serve_run<R: Read, W: Write, E: Write>(
     alloc: Global,
-    limit: Option<u64>,
+    limit: u64,
     stats: bool,
     input: &mut Watched<R>,
     output: &mut Watched<W>,
@@ -137,35 +142,7 @@ fn serve_run<R: Read, W: Write, E: Write>(
     ensures { (ended : Result (Pairs ℕ) HowRun) × (result ≡ run_status ended)
         × EndsRun R.remaining W.contents input.old input.new output.old output.new ended }
 {
-    match limit {
-        Some(limit) => {
-            let budget = Budget::new(limit);
-            run_within(alloc, budget, limit < LEAST, stats, input, output, errors)
-        }
-        None => {
-            let memory = DefaultAllocator {};
-            run_within(alloc, memory, false, stats, input, output, errors)
-        }
-    }
-}
-
-// A run whose map has this budget, which may be too small for any map. Writes why the run failed, if it did, or the
-// statistics of its map, where they are wanted, and returns the status.
-fn run_within<R: Read, W: Write, E: Write, A: Allocator>(
-    alloc: Global,
-    allocator: A,
-    too_small: bool,
-    stats: bool,
-    input: &mut Watched<R>,
-    output: &mut Watched<W>,
-    errors: &mut E,
-) -> u8
-    requires input { input.old.failed ≢ true }
-    requires output { output.old.failed ≢ true }
-    ensures { (ended : Result (Pairs ℕ) HowRun) × (result ≡ run_status ended)
-        × EndsRun R.remaining W.contents input.old input.new output.old output.new ended }
-{
-    match run(alloc, allocator, input, output) {
+    match run(alloc, Budget::new(limit), input, output) {
         Ok(map) => {
             if stats {
                 write_stats(alloc, errors, &map);
@@ -175,7 +152,7 @@ fn run_within<R: Read, W: Write, E: Write, A: Allocator>(
         Err(RunError::Read) => report_broken(errors),
         Err(RunError::Write) => report_broken(errors),
         Err(RunError::Oom) => {
-            if too_small {
+            if limit < LEAST {
                 report_small_limit(errors)
             } else {
                 report_no_memory(errors)
@@ -199,7 +176,7 @@ fn end_schedule<E: Write>(errors: &mut E, ended: Result<(), ScheduleError>) -> u
 }
 
 // Writes the statistics of a map, and what its nodes are charged; or that there is no memory for them.
-fn write_stats<E: Write, A: Allocator>(alloc: Global, errors: &mut E, map: &Congee<u64, u64, A>) {
+fn write_stats<E: Write>(alloc: Global, errors: &mut E, map: &Congee<u64, u64, Budget>) {
     match stats_text(alloc, map) {
         Ok(text) => {
             let _ = errors.write_all(text.as_bytes());
@@ -210,7 +187,7 @@ fn write_stats<E: Write, A: Allocator>(alloc: Global, errors: &mut E, map: &Cong
     }
 }
 
-fn stats_text<A: Allocator>(alloc: Global, map: &Congee<u64, u64, A>) -> Result<String, OOMError> {
+fn stats_text(alloc: Global, map: &Congee<u64, u64, Budget>) -> Result<String, OOMError> {
     let stats = map.stats()?;
     let charged = map.charged();
     Ok(format!(in alloc; "{stats}Charged: {charged} bytes\n")?)

@@ -1,5 +1,5 @@
 -- The entry of a pair that is alone.
-use Rattle.std.proofs.Common.{◌≡◌, ℕ, ◌+◌, ◌<◌, ◌≤◌, List, [], ◌∷◌, length, set, refl, subst, arith}
+use Rattle.std.proofs.Common.{◌≡◌, ℕ, ◌+◌, ◌^◌, ◌<◌, ◌≤◌, List, [], ◌∷◌, length, set, refl, subst, arith}
 use Rattle.std.proofs.lemmas.Bool.{lt-ltb, le-ltb, lt-leb, le-leb}
 use Rattle.std.proofs.lemmas.List.{append-nil}
 use Rattle.tree_walk.specs.inner.Scan.{AddsEntries, entries_of, entries_down}
@@ -38,3 +38,10 @@ module _ {E : Type 0} (entry : ℕ → ℕ → E) (start end number value : ℕ)
 
     pub writes_one : start ≤ number → number < end → (x : E) → x ≡ entry number value → Writes (set old count x) (count + 1)
     writes_one from to x is = writes (entry number value ∷ []) (set old count x) (count + 1) (alone_in from to) (subst (λ e. AddsEntries (e ∷ []) old count (set old count x) (count + 1)) is (adds-one old count x room))
+
+-- one that is written without a range is written of each range that it is in
+pub writes_within : {E : Type 0} (entry : ℕ → ℕ → E) (start end number value : ℕ) (old : List E) (count : ℕ) (room : count < length old) → start ≤ number → number < end → number < 2 ^ 64
+    → (new : List E) (result : ℕ) → AddsEntries (entries_of entry 0 (2 ^ 64) ((number, value) ∷ [])) old count new result → Writes entry start end number value old count room new result
+writes_within entry start end number value old count room from to fits new result adds =
+    writes entry start end number value old count room (entry number value ∷ []) new result (alone_in entry start end number value from to)
+    (subst (λ es. AddsEntries es old count new result) (alone_in entry 0 (2 ^ 64) number value (omega arith) fits).up adds)

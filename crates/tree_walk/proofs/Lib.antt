@@ -2,7 +2,8 @@ pub mod BytesLeft
 pub mod CountLaws
 pub mod EntryLaws
 pub mod FillLaws
-pub mod KeyWalkLaws
+pub mod InsideLaws
+mod KeyWalkLaws
 pub mod LinkLaws
 pub mod NearestLaws
 pub mod ScanDownLaws

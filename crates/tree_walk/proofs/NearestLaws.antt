@@ -1,5 +1,5 @@
 -- The search below a node for the pair nearest to a key.
-use Rattle.std.proofs.Common.{◌≡◌, ℕ, zero, suc, ◌+◌, ◌^◌, ◌<◌, ◌≤◌, ◌≢◌, true, false, List, [], ◌∷◌, ◌++◌, length, Option, Some, None, option_map, refl, ap, sym, subst, ◌∙◌, arith, inl, inr, append_assoc}
+use Rattle.std.proofs.Common.{◌≡◌, ℕ, zero, suc, ◌+◌, ◌-◌, ◌^◌, ◌<◌, ◌≤◌, ◌≢◌, true, false, List, [], ◌∷◌, ◌++◌, length, Option, Some, None, option_map, refl, ap, sym, subst, ◌∙◌, arith, inl, inr, append_assoc}
 use Rattle.std.specs.Option.{is_some}
 use Rattle.std.proofs.lemmas.List.{append-nil}
 use Rattle.std.proofs.lemmas.List.Elements.{filter-append}
@@ -68,6 +68,16 @@ module _ {C : Type 0} where
         let l = greatest_between 0 to 0 256 es (byte, c) h (sym is) in
         let there = stored_between 0 to es (byte, c) (omega arith) l.to l.stored in
         between-split 0 256 byte (byte + 1) 256 es h (omega arith) (omega (arith, l.to, within)) ∙ ap (λ t. t ++ between es (byte + 1) 256) (one_between 0 256 es byte c h there)
+
+  -- what is under the byte before one is the last below it
+  pub below_found : (es : List (ℕ × C)) (to : ℕ) (c : C) → Rises 0 256 es → 0 < to → to ≤ 256 → Some c ≡ lookup es (to - 1) → Some (to - 1, c) ≡ below_of es to
+  below_found es to c h some within is =
+      let byte = to - 1 in
+      let one = one_between 0 256 es byte c h (sym is) in
+      let next : byte + 1 ≡ to = omega (arith, some) in
+      let here : between es byte to ≡ (byte, c) ∷ [] = subst (λ t. between es byte t ≡ (byte, c) ∷ []) next one in
+      let whole = between-split 0 256 0 byte to es h (omega arith) (omega arith) in
+      sym (ap last_of (whole ∙ ap (λ t. between es 0 byte ++ t) here) ∙ last-append (between es 0 byte) ((byte, c) ∷ []) (λ none. absurd (cc)))
 
 module _ {P : Type 0} (s : NodeTable P) (start less slot : ℕ) (n : TableNode P) (tree : IsSubtree s (suc less) slot) (here : Some n ≡ node_at s slot) where
   pub seek_start : (w : Window) (end : ℕ) → IsWindow n.prefix start end w → SeekLeft s start less slot n w.from

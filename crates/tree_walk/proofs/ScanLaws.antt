@@ -21,7 +21,7 @@ use Rattle.tree_path.specs.inner.Root.{depth}
 use Rattle.tree_path.proofs.PathEndLaws.{depth_is}
 use Rattle.tree_walk.specs.declared.window.Window.{Window}
 use Rattle.tree_walk.proofs.WindowLaws.{low-leaf, leaf_fits, padded_key}
-use Rattle.tree_walk.proofs.FillLaws.{fills-none, Written, written-none, written-more, written-end}
+use Rattle.tree_walk.proofs.FillLaws.{fills-none}
 
 Rises-of_mapped : {C D : Type 0} (f : C → D) (a b : ℕ) (es : List (ℕ × C)) → Rises a b (mapped f es) → Rises a b es
 Rises-of_mapped f a b [] h = tt
@@ -29,7 +29,7 @@ Rises-of_mapped f a b (e ∷ es) h = (h.0, h.1, Rises-of_mapped f (e.0 + 1) b es
 
 module _ {P : Type 0} (below : List ℕ → ℕ → Type 0) (p : List ℕ) where
   -- a part of the children are children
-  AreChildren-between : (es : List (ℕ × Child P)) (s e : ℕ) → AreChildren below p es → AreChildren below p (between es s e)
+  pub AreChildren-between : (es : List (ℕ × Child P)) (s e : ℕ) → AreChildren below p es → AreChildren below p (between es s e)
   AreChildren-between [] s e h = tt
   AreChildren-between (x ∷ xs) s e h =
       elim (cases_lt x.0 s) [
@@ -111,7 +111,7 @@ module _ {P : Type 0} (s : NodeTable P) where
       ap (λ es. between es start end) a.pairs ∙ clip less n.prefix n.children 0 w.from w.to start end a.sound.ordered a.children is.before is.past
 
 module _ {P E : Type 0} (entry : ℕ → P → E) (start end : ℕ) where
-  entries_of-append : (xs ys : Pairs P) → entries_of entry start end (xs ++ ys) ≡ entries_of entry start end xs ++ entries_of entry start end ys
+  pub entries_of-append : (xs ys : Pairs P) → entries_of entry start end (xs ++ ys) ≡ entries_of entry start end xs ++ entries_of entry start end ys
   entries_of-append xs ys = ap (λ es. map (λ e. entry e.0 e.1) es) (filter-append _ xs ys) ∙ map-append (λ e. entry e.0 e.1) (between xs start end) (between ys start end)
 
   -- a leaf's payloads, which all lie in the range
@@ -129,23 +129,9 @@ module _ {P E : Type 0} (entry : ℕ → P → E) (start end : ℕ) where
     abbrev pub all_entries : ℕ → ℕ → List E
     all_entries less slot = entries_of entry start end (pairs_at s (suc less) slot)
 
-    -- the pairs under some of a node's children are left, and the others are written
-    pub record Part (less slot : ℕ) (n : TableNode P) (left : List (ℕ × Child P)) (old : List E) (first : ℕ) (new : List E) (count : ℕ) : Type 0 where
-      pub written : Written (all_entries less slot) (entries_of entry start end (pairs_of (λ j. pairs_at s less j) n.prefix left)) old first new count
-      pub children : AreChildren (λ q j. IsTree s less q j) n.prefix left
-
     module _ (less slot : ℕ) (n : TableNode P) (tree : IsSubtree s (suc less) slot) (here : Some n ≡ node_at s slot) (w : Window) (is : IsWindow n.prefix start end w) where
-      in_window : all_entries less slot ≡ entries_of entry start end (pairs_of (λ j. pairs_at s less j) n.prefix (between n.children w.from w.to))
+      pub in_window : all_entries less slot ≡ entries_of entry start end (pairs_of (λ j. pairs_at s less j) n.prefix (between n.children w.from w.to))
       in_window = ap (λ es. map (λ e. entry e.0 e.1) es) (window_pairs s less slot n tree here w start end is)
-
-      pub part_start : (b : List E) (count : ℕ) → count ≤ length b → (left : List (ℕ × Child P)) → left ≡ between n.children w.from w.to → Part less slot n left b count b count
-      part_start b count inside left is_left =
-          let a = at_node s less slot n tree here in
-          record {
-            written = subst (λ t. Written t (entries_of entry start end (pairs_of (λ j. pairs_at s less j) n.prefix left)) b count b count)
-                (ap (λ t. entries_of entry start end (pairs_of (λ j. pairs_at s less j) n.prefix t)) is_left ∙ sym in_window) (written-none _ b count inside);
-            children = subst (λ t. AreChildren (λ q j. IsTree s less q j) n.prefix t) (sym is_left) (AreChildren-between (λ q j. IsTree s less q j) n.prefix n.children w.from w.to a.children);
-          }
 
       -- those of a leaf
       pub in_leaf_window : (es : List (ℕ × P)) → length n.prefix ≡ 7 → mapped (λ v. Payload v) es ≡ between n.children w.from w.to → entries_under entry w.first es ≡ all_entries less slot
@@ -154,26 +140,6 @@ module _ {P E : Type 0} (entry : ℕ → P → E) (start end : ℕ) where
           let o : Rises w.from w.to (mapped (λ v. Payload v) es) = subst (λ t. Rises w.from w.to t) (sym is_left) (between-within 0 256 w.from w.to n.children a.sound.ordered) in
           sym (in_window ∙ ap (λ t. entries_of entry start end (pairs_of (λ j. pairs_at s less j) n.prefix t)) (sym is_left)
           ∙ entries_of-leaf (λ j. pairs_at s less j) n.prefix w is seven w.from w.to es (Rises-of_mapped (λ v. Payload v) w.from w.to es o) (omega arith) (omega arith))
-
-    module _ (less slot : ℕ) (n : TableNode P) (left : List (ℕ × Child P)) (old new : List E) (first count : ℕ) (part : Part less slot n left old first new count) where
-      pub part_seen : (next : List (ℕ × Child P)) → left ≡ next → Part less slot n next old first new count
-      part_seen next is = subst (λ t. Part less slot n t old first new count) is part
-
-      pub part_end : left ≡ [] → AddsEntries (all_entries less slot) old first new count
-      part_end none = written-end _ _ old new first count part.written (ap (λ t. entries_of entry start end (pairs_of (λ j. pairs_at s less j) n.prefix t)) none)
-
-    module _ (less slot : ℕ) (n : TableNode P) (byte j : ℕ) (left : List (ℕ × Child P)) (old new : List E) (first count : ℕ) (part : Part less slot n ((byte, Node j) ∷ left) old first new count) where
-      pub part_node : (b : List E) (k : ℕ) → ((l : ℕ) → IsSubtree s (suc l) j → AddsEntries (all_entries l j) new count b k) → Part less slot n left old first b k
-      part_node b k adds =
-          record {
-            written = written-more _ _ old new first count part.written (entries_of entry start end (pairs_at s less j)) _ b k
-                (entries_of-append (pairs_at s less j) (pairs_of (λ j. pairs_at s less j) n.prefix left)) (go less part.children.0);
-            children = part.children.1;
-          }
-        where
-          go : (l : ℕ) → IsTree s l (n.prefix ++ byte ∷ []) j → AddsEntries (entries_of entry start end (pairs_at s l j)) new count b k
-          go zero h = absurd h
-          go (suc l) h = adds l (record { above = n.prefix ++ byte ∷ []; tree = h })
 
 module _ {P : Type 0} (s : NodeTable P) where
   -- a child of the slot's node under its byte

@@ -6,7 +6,7 @@ use Rattle.std.proofs.Math.Nat.{mod-lt}
 use Rattle.std.proofs.Common.{w64}
 use Rattle.std.specs.Int.{from_be_bytes}
 use Rattle.node_table.specs.Key.{span, least, room, low, high, AreBytes}
-use Rattle.node_table.proofs.KeyLaws.{between_spans, room-positive, least-bound, key_number-be_bytes}
+use Rattle.node_table.proofs.KeyLaws.{between_spans, room-positive, least-bound, key_number-be_bytes, AreBytes-append}
 use Rattle.tree_walk.specs.inner.Scan.{IsWindow}
 use Rattle.tree_walk.specs.declared.window.Window.{Window}
 
@@ -91,6 +91,11 @@ module _ (p : List ℕ) (start end : ℕ) (short : length p ≤ 7) (w : Window) 
       let room = room-positive 8 (p ++ b ∷ []) in
       omega arith
 
+  after_first : (b : ℕ) → w.from < b → start ≤ low (p ++ b ∷ [])
+  after_first b more =
+      let h = past_quotient p (7 - length p) (omega arith) (start - low p) b (subst (λ q. q < b) from more) in
+      omega arith
+
   not_before : length p ≡ 7 → (b : ℕ) → w.from ≤ b → start ≤ low (p ++ b ∷ [])
   not_before seven b more =
       let none : 7 - length p ≡ 0 = omega arith in
@@ -107,6 +112,10 @@ module _ (p : List ℕ) (start end : ℕ) (short : length p ≤ 7) (w : Window) 
         past = λ b byte more.
             let h = past_quotient p (7 - length p) (omega arith) (end - 1 - low p) b (omega (arith, byte, more, to)) in
             omega arith;
+        after_first = after_first;
+        before_last = λ b less.
+            let h = before_quotient p (7 - length p) (omega arith) (end - 1 - low p) b (omega (arith, less, to)) in
+            omega (arith, h, some);
         not_before = not_before;
         not_past = λ seven b less.
             let none : 7 - length p ≡ 0 = omega arith in
@@ -122,6 +131,29 @@ module _ (p : List ℕ) (start end : ℕ) (short : length p ≤ 7) (w : Window) 
         within = omega (arith, to);
         before = before;
         past = λ b byte more. let some = past_low p (7 - length p) (omega arith) b in omega arith;
+        after_first = after_first;
+        before_last = λ b less. absurd (omega arith);
         not_before = not_before;
         not_past = λ seven b less. absurd (omega arith);
       }
+
+-- a prefix's keys are below 2 ^ 64
+pub high_fits : (p : List ℕ) → AreBytes p → length p ≤ 8 → high p ≤ 2 ^ 64
+high_fits p bytes short = let bound = least-bound 8 p bytes short in omega (arith, bound)
+
+-- all bytes are a window of all numbers
+pub whole_window : (p : List ℕ) → AreBytes p → length p ≤ 7 → IsWindow p 0 (2 ^ 64) (record { first = low p; from = 0; to = 256 })
+whole_window p bytes short =
+    record {
+      first = refl;
+      within = omega arith;
+      before = λ b less. absurd (omega arith);
+      past = λ b byte more. absurd (omega arith);
+      after_first = λ b more. omega arith;
+      before_last = λ b less. high_fits (p ++ b ∷ []) (AreBytes-append p (b ∷ []) bytes (omega arith, tt)) (simp length-append (omega arith));
+      not_before = λ seven b more. omega arith;
+      not_past = λ seven b less.
+          let l = low-leaf p b seven in
+          let fits = leaf_fits p bytes seven in
+          omega (arith, l, fits);
+    }

@@ -6,6 +6,7 @@
 pub mod nearest;
 mod pair;
 mod payloads;
+mod places;
 pub mod range_down;
 pub mod range_scan;
 pub mod statistics;

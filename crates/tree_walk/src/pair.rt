@@ -2,7 +2,7 @@
 //!
 //! Tested in `test_owned` and `tools/dev/try-commands`.
 
-ghost use Rattle.std.specs.Prelude.{◌≡◌, ℕ, ◌+◌, ◌<◌, [], ◌∷◌, length};
+ghost use Rattle.std.specs.Prelude.{◌≡◌, ℕ, ◌+◌, ◌^◌, ◌<◌, [], ◌∷◌, length};
 ghost use Rattle.std.specs.Option.{option_map};
 ghost use Rattle.spec_map.specs.Near.{floor_of, ceiling_of};
 ghost use Rattle.tree_walk.specs.inner.Scan.{AddsEntries, entries_of, entries_down};
@@ -57,6 +57,21 @@ pub(crate) fn write_pair<E: RangeEntry>(
     if number > last {
         return count;
     }
+    write_one(number, value, buffer, count)
+}
+
+/// Writes the pair's entry at a place of the buffer, and returns the place after it.
+#[inline(always)]
+pub(crate) fn write_one<E: RangeEntry>(
+    number: u64,
+    value: u64,
+    buffer: &mut [E],
+    count: usize,
+) -> usize
+    requires { count < length buffer.old }
+    ensures { AddsEntries (entries_of E.entry 0 (2 ^ 64) ((number, value) ∷ []))
+        buffer.old count buffer.new result }
+{
     buffer[count] = E::from_pair(number, value);
     count + 1
 }

@@ -1,28 +1,31 @@
 //! The pairs of a range, from a subtree of the table into a buffer.
 //!
 //! In each node a scan begins at the first byte whose keys aren't all before the range, and ends at the first whose
-//! keys are all past it. Of the children between them all but the first and the last are entirely in the range. So it
-//! reads the nodes above the pairs that it writes, and besides at most one path at each end of the range, however large
-//! the tree is; at the buffer's end it reads nothing more, except what it has read ahead. A node without children is
-//! skipped: the root may be one.
+//! keys are all past it. Of the children between them all but the first and the last are entirely in the range. So only
+//! the nodes on two paths, one at each end of the range, are searched and compared with it. What lies between is written
+//! by `scan_inside`, which looks at no key. At the buffer's end a scan reads nothing more, except counts that it has read
+//! ahead. A node without children is skipped: the root may be one.
 //!
-//! An iterator remembers the place in each node, so that a node isn't searched again for each child. The payloads of a
-//! leaf are written in one loop, which is compiled for each form of nodes by itself. A pair in its parent is written
-//! where it is met. Some children of an inner node are read ahead.
+//! An iterator remembers the place in each node, so that a node isn't searched again for each child. A node's form is
+//! asked once: its children, and the payloads of a leaf, are gone through in a loop for each form. A pair in its parent is
+//! written where it is met.
 //!
 //! Tested in `test_owned/scans`.
 
-ghost use Rattle.std.specs.Prelude.{◌≡◌, ◌+◌, ◌^◌, ◌<◌, ◌≤◌, [], ◌∷◌, length, IfSome, IfNone};
+ghost use Rattle.std.specs.Prelude.{◌≡◌, ◌+◌, ◌^◌, ◌<◌, ◌≤◌, [], ◌∷◌, length};
 ghost use Rattle.node_base.specs.Rest.{rest};
+ghost use Rattle.tree_links.specs.Places.{as_linked};
 ghost use Rattle.tree_links.specs.SeenTable.{name_of};
-ghost use Rattle.tree_walk.specs.inner.Scan.{HasSubtree, EachSubtree, AddsEntries, entries_of, entries_under};
+ghost use Rattle.tree_walk.specs.inner.Scan.{HasSubtree, EachSubtree, HasLinks, AddsAll, AddsEntries, entries_of, entries_under, links_at};
 
-use crate::pair::write_pair;
+use crate::pair::{write_one, write_pair};
 use crate::payloads::Payloads;
+use crate::places::{next_4, next_16, next_48, next_256};
 use crate::window::window_of;
 use node_base::iter::NodeIter;
 use node_table::child::ChildIter;
 use tree_links::bytes::pair_number;
+use tree_links::link::LinkRef;
 use tree_links::linked_node::LinkedNode;
 use tree_links::links::Links;
 use tree_links::place::{Linked, Place};
@@ -59,7 +62,7 @@ impl RangeEntry for ([u8; 8], u64) {
     }
 }
 
-/// How many children a scan looks at before it reads the first of them.
+/// Of how many children at most a scan reads the counts before it reads the first of them.
 pub(crate) const AHEAD: usize = 16;
 
 /// How many of so many places are left after the entries of the node in a slot, by its count.
@@ -69,61 +72,6 @@ pub(crate) fn room_after(nodes: &Links<u64>, slot: usize, room: usize) -> usize 
         Some(node) => room.saturating_sub(LinkedNode::base(node).value_count() as usize),
         None => room,
     }
-}
-
-// The first of the remaining places, after its byte. Two words: the iterator's own result is a byte beside a reference,
-// which the processor puts together more slowly than it finds it.
-fn next_place<'a>(places: &mut NodeIter<'a, Place<u64>>) -> Option<(usize, &'a Place<u64>)>
-    ensures none { IfNone result (rest places.old ≡ []) }
-    ensures some { IfSome result (λ found. rest places.old
-        ≡ (found.0, found.1.now) ∷ rest places.new) }
-    ensures byte { IfSome result (λ found. found.0 < 256) }
-{
-    let (byte, place) = match places {
-        NodeIter::N4(places) => places.next()?,
-        NodeIter::N16(places) => places.next()?,
-        NodeIter::N48(places) => places.next()?,
-        NodeIter::N256(places) => places.next()?,
-    };
-    Some((byte as usize, place))
-}
-
-// Up to which byte the next children of an inner node are read together, from a byte on: as many as it takes to fill so
-// many places by the counts of their nodes, and `AHEAD` at most.
-//
-// A count is read of each of them, one right after the other, and none waits for the others. So their nodes come from
-// memory at the same time, where the scan by itself would wait for each in turn. A pair is in this node.
-fn read_ahead(
-    nodes: &Links<u64>,
-    node: &Linked<u64>,
-    from: usize,
-    to: usize,
-    mut room: usize,
-) -> usize
-    requires some { from < to }
-    requires bytes { to ≤ 256 }
-    ensures more { from < result }
-    ensures within { result ≤ to }
-{
-    let ChildIter::Nodes(mut places) = LinkedNode::links_between(node, from, to) else {
-        return to;
-    };
-    let mut until = from + 1;
-    for _ in 0..AHEAD {
-        let Some((byte, place)) = next_place(&mut places) else {
-            return to;
-        };
-        until = byte + 1;
-        room = match place {
-            Place::Slot(below) => room_after(nodes, *below, room),
-            Place::Pair(_, _) => room.saturating_sub(1),
-        };
-        if room == 0 {
-            break;
-        }
-    }
-    // (it lies between the two anyhow; this spares a proof)
-    until.max(from + 1).min(to)
 }
 
 // Writes the entries of the remaining payloads of a leaf, from place `count` on, and returns the place after the last;
@@ -169,6 +117,152 @@ fn write_payloads<E: RangeEntry>(
     }
 }
 
+// Reads the counts of the nodes below the next children of a node with cells, from a byte on, and returns of how many: as
+// many as it takes to fill so many places by these counts, and `AHEAD` at most.
+//
+// No read waits for another. So these nodes come from memory at the same time, where the scan by itself would wait for
+// each in turn. A pair is in this node. Other forms have too few children for that.
+fn read_ahead(nodes: &Links<u64>, node: &Linked<u64>, from: u8, mut room: usize) -> usize {
+    let ChildIter::Nodes(NodeIter::N256(mut places)) = LinkedNode::links_between(
+        node,
+        from as usize,
+        256,
+    ) else {
+        return AHEAD;
+    };
+    let mut seen = 0;
+    for _ in 0..AHEAD {
+        let Some((_, place)) = next_256(&mut places) else {
+            return AHEAD;
+        };
+        room = match place {
+            Place::Slot(below) => room_after(nodes, *below, room),
+            Place::Pair(_, _) => room.saturating_sub(1),
+        };
+        seen += 1;
+        if room == 0 {
+            break;
+        }
+    }
+    seen
+}
+
+// Writes the entries of all pairs below one place of the node in a slot, and returns the buffer's place after the last. It
+// ends at the buffer's end.
+#[cycle(inside)]
+#[inline(always)]
+fn scan_place<E: RangeEntry>(
+    nodes: &Links<u64>,
+    _slot: usize,
+    node: &Linked<u64>,
+    byte: u8,
+    place: &Place<u64>,
+    buffer: &mut [E],
+    count: usize,
+) -> usize
+    requires place { HasLinks nodes.now.table _slot (as_linked node.now)
+        (links_at ((byte, place.now) ∷ [])) }
+    requires room { count < length buffer.old }
+    ensures { AddsAll nodes.now.table E.entry _slot (as_linked node.now)
+        (links_at ((byte, place.now) ∷ [])) buffer.old count buffer.new result }
+{
+    match place {
+        Place::Slot(below) => scan_inside(nodes, *below, buffer, count),
+        Place::Pair(rest, value) => {
+            let number = pair_number(LinkedNode::base(node), byte, rest);
+            write_one(number, *value, buffer, count)
+        }
+    }
+}
+
+// Writes the entries of all pairs below the remaining places of the node in a slot, from place `count` of the buffer on,
+// and returns the place after the last. It ends at the buffer's end.
+#[cycle(inside)]
+fn scan_places<E: RangeEntry>(
+    nodes: &Links<u64>,
+    _slot: usize,
+    node: &Linked<u64>,
+    places: NodeIter<'_, Place<u64>>,
+    buffer: &mut [E],
+    mut count: usize,
+) -> usize
+    requires places { HasLinks nodes.now.table _slot (as_linked node.now)
+        (links_at (rest places)) }
+    requires room { count ≤ length buffer.old }
+    ensures { AddsAll nodes.now.table E.entry _slot (as_linked node.now)
+        (links_at (rest places.entry)) buffer.old count buffer.new result }
+{
+    match places {
+        NodeIter::N4(mut places) => {
+            'few: while count < buffer.len() {
+                let Some((byte, place)) = next_4(&mut places) else {
+                    return count;
+                };
+                count = scan_place(nodes, _slot, node, byte, place, buffer, count);
+            }
+            count
+        }
+        NodeIter::N16(mut places) => {
+            'row: while count < buffer.len() {
+                let Some((byte, place)) = next_16(&mut places) else {
+                    return count;
+                };
+                count = scan_place(nodes, _slot, node, byte, place, buffer, count);
+            }
+            count
+        }
+        NodeIter::N48(mut places) => {
+            'index: while count < buffer.len() {
+                let Some((byte, place)) = next_48(&mut places) else {
+                    return count;
+                };
+                count = scan_place(nodes, _slot, node, byte, place, buffer, count);
+            }
+            count
+        }
+        NodeIter::N256(mut places) => {
+            let mut ahead = 0;
+            'cells: while count < buffer.len() {
+                let Some((byte, place)) = next_256(&mut places) else {
+                    return count;
+                };
+                if ahead == 0 {
+                    ahead = read_ahead(nodes, node, byte, buffer.len() - count);
+                }
+                ahead = ahead.saturating_sub(1);
+                count = scan_place(nodes, _slot, node, byte, place, buffer, count);
+            }
+            count
+        }
+    }
+}
+
+// Writes the entries of all pairs of the subtree to the buffer, from place `count` on, and returns the place after the
+// last one. It ends at the buffer's end.
+#[cycle(inside)]
+fn scan_inside<E: RangeEntry>(
+    nodes: &Links<u64>,
+    slot: usize,
+    buffer: &mut [E],
+    count: usize,
+) -> usize
+    requires tree { HasSubtree nodes.now.table (name_of slot) }
+    requires room { count ≤ length buffer.old }
+    ensures { EachSubtree nodes.now.table (name_of slot) (λ pairs.
+        AddsEntries (entries_of E.entry 0 (2 ^ 64) pairs) buffer.old count buffer.new result) }
+{
+    let Some(node) = nodes.get(slot) else {
+        unreachable!()
+    };
+    let base = LinkedNode::base(node);
+    match LinkedNode::links_between(node, 0, 256) {
+        ChildIter::Payloads(payloads) => {
+            write_payloads(payloads, base.first_key(), buffer, count)
+        }
+        ChildIter::Nodes(places) => scan_places(nodes, slot, node, places, buffer, count),
+    }
+}
+
 /// Writes the entries of the subtree's pairs from `start` on and up to `last` to the buffer, from place `count` on, and
 /// returns the place after the last one. It ends at the buffer's end.
 pub fn scan<E: RangeEntry>(
@@ -201,23 +295,26 @@ pub fn scan<E: RangeEntry>(
         if count >= buffer.len() {
             return count;
         }
-        let until = read_ahead(nodes, node, from, window.to, buffer.len() - count);
-        let ChildIter::Nodes(mut places) = LinkedNode::links_between(node, from, until) else {
-            unreachable!()
-        };
-        'children: while let Some((byte, place)) = next_place(&mut places) {
-            if count >= buffer.len() {
-                return count;
-            }
-            count = match place {
-                Place::Slot(below) => scan(nodes, *below, start, last, buffer, count),
-                Place::Pair(rest, value) => {
-                    let number = pair_number(base, byte as u8, rest);
+        if from > window.from && from + 1 < window.to {
+            // (all between the two ends)
+            let ChildIter::Nodes(places) = LinkedNode::links_between(node, from, window.to - 1)
+            else {
+                unreachable!()
+            };
+            count = scan_places(nodes, slot, node, places, buffer, count);
+            from = window.to - 1;
+        } else {
+            count = match LinkedNode::get_link(node, from as u8) {
+                Some(LinkRef::Slot(below)) => scan(nodes, below, start, last, buffer, count),
+                Some(LinkRef::Pair(rest, value)) => {
+                    let number = pair_number(base, from as u8, rest);
                     write_pair(number, *value, start, last, buffer, count)
                 }
+                Some(LinkRef::Payload(_)) => unreachable!(),
+                None => count,
             };
+            from += 1;
         }
-        from = until;
     }
     count
 }

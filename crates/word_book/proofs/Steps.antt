@@ -164,6 +164,10 @@ module _ {M : Type 1} {𝓤 : Ura M} (𝓛 : Logic 𝓤) {V : Type 0} (cv : Code
           use1 𝓛 (‵ N ⊛ ‵ N) (𝓛.invs.named_dup b.number J) $ split ! $ move ! (3 ∷ 0 ∷ 4 ∷ []) $
           by ! (borrowed_with 𝓛 κ q I bl of f always after i b.number J (λ (e : b.number ≡ i). omega arith) (mean 𝓛 (‵ N ⊛ ‵ (view id v))) (found law))
 
+  -- the book of these names, with this limit: what seats and rights own doesn't go by it
+  abbrev pub limited : Book → ℕ → Book
+  limited b limit = record { number = b.number; views_name = b.views_name; words_name = b.words_name; limit = limit }
+
   module _ (v : V) (n : ℕ) where
     abbrev pub Begun : Book → SProp 𝓤
     Begun b = sep 𝓤 (sem 𝓛 (seat_owns cv.code holds b 0 v)) (sem 𝓛 (pens_own b.words_name 0 n))
@@ -181,5 +185,5 @@ module _ {M : Type 1} {𝓤 : Ura M} (𝓛 : Logic 𝓤) {V : Type 0} (cv : Code
         move ! (2 ∷ []) $ fpack ! V (unused cv.code γ 1) v $ move ! (1 ∷ 0 ∷ []) $ fjoin ! $ nothing ! $ fpack ! (holds s) (λ _. ftrue) so $ move ! (3 ∷ 1 ∷ 0 ∷ []) $ fjoin3 ! $
         fpack ! (State V) (standing cv.code holds γ δ) s $
         use1 𝓛 (later (some (λ (j : ℕ). given (0 ≤ j) (‵ (fnamed j (Room γ δ)))))) (named_past 𝓛 0 (Room γ δ)) $ await ! tt $ pick ! (λ j. learn ! (λ _.
-        let b : Book = record { number = j; views_name = γ; words_name = δ } in
+        let b : Book = record { number = j; views_name = γ; words_name = δ; limit = 0 } in
         use2 𝓛 (‵ (seat_owns cv.code holds b 0 v)) (seated b 0 v) $ now ! $ show ! Begun b $ done !))))

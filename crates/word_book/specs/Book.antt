@@ -4,15 +4,17 @@ use mathlib.Core.Option.{some}
 use lib.ListN.{get_elem?}
 use base.Stored.{Coded, coded×, coded_ℕ, coded_via}
 
--- Which book it is. No two books have the same three numbers.
+-- Which book it is. No two books have the same first three numbers. The last one is noted for who opened the book: its limit
+-- in bytes.
 pub record Book : Type 0 where
   pub number : ℕ
   pub views_name : ℕ
   pub words_name : ℕ
+  pub limit : ℕ
 
 abbrev pub book_coded : Coded Book
-book_coded = coded_via (coded× coded_ℕ (coded× coded_ℕ coded_ℕ)) (λ (b : Book). (b.number, (b.views_name, b.words_name)))
-    (λ x y e i. record { number = (e i).0; views_name = (e i).1.0; words_name = (e i).1.1 })
+book_coded = coded_via (coded× coded_ℕ (coded× coded_ℕ (coded× coded_ℕ coded_ℕ))) (λ (b : Book). (b.number, (b.views_name, (b.words_name, b.limit))))
+    (λ x y e i. record { number = (e i).0; views_name = (e i).1.0; words_name = (e i).1.1.0; limit = (e i).1.1.1 })
 
 -- Which word it is: the key is its place in the list of all words of its book.
 pub record Name : Type 0 where

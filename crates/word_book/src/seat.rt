@@ -49,13 +49,16 @@ impl Model for Pens {
 }
 
 impl<V, P: Rule<V>> Seat<V, P> {
-    /// A new book with `count` words, each 0, its first seat, and the rights to make the words.
-    pub fn open(count: usize) -> (Seat<V, P>, Pens)
+    /// A new book with `count` words, each 0, its first seat, and the rights to make the words. The limit is noted in the book
+    /// for its maker, and nothing here goes by it.
+    pub fn open(count: usize, limit: u64) -> (Seat<V, P>, Pens)
         requires { P.holds record { words = replicate count 0; views = P.first ∷ [] } }
         ensures seat { (result.0.id ≡ 0) × (result.0.view ≡ P.first) }
         ensures pens { (result.1.book ≡ result.0.book) × (result.1.next ≡ 0) × (result.1.left ≡ count) }
+        ensures limit { result.0.book.limit ≡ limit }
     {
         let _ = count;
+        let _ = limit;
         (
             Seat {
                 marker: PhantomData,

@@ -38,11 +38,16 @@ IsSegment d j words = (length words ≡ size j) × AreWords (first_key d j) d.bo
 
 -- a directory as numbers, which tag its slots
 abbrev pub numbers : Directed → List ℕ
-numbers d = d.base ∷ d.book.number ∷ d.book.views_name ∷ d.book.words_name ∷ d.most ∷ []
+numbers d = d.base ∷ d.most ∷ d.book.number ∷ d.book.views_name ∷ d.book.words_name ∷ d.book.limit ∷ []
 
 abbrev pub directed_by : List ℕ → Directed
 directed_by t = record {
   base = first t;
-  most = first (others (others (others (others t))));
-  book = record { number = first (others t); views_name = first (others (others t)); words_name = first (others (others (others t))) };
+  most = first (others t);
+  book = record {
+    number = first (others (others t));
+    views_name = first (others (others (others t)));
+    words_name = first (others (others (others (others t))));
+    limit = first (others (others (others (others (others t)))));
+  };
 }

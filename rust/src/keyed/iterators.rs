@@ -5,7 +5,7 @@ use std::fmt;
 use std::iter::FusedIterator;
 use std::marker::PhantomData;
 
-/// The pairs of a range, from either end.
+/// The pairs of a range, keys ascending, from either end, over a [`Range`](crate::Range) of numbers.
 pub struct Range<'a, K, V> {
     of: crate::Range<'a>,
     _types: PhantomData<fn() -> (K, V)>,
@@ -46,7 +46,8 @@ impl<K: Word, V: Word> DoubleEndedIterator for Range<'_, K, V> {
 
 impl<K: Word, V: Word> FusedIterator for Range<'_, K, V> {}
 
-/// All pairs of a map that isn't shared, from either end. It knows how many are left.
+/// All pairs of a map that isn't shared, keys ascending, from either end, over a [`Range`](crate::Range) of numbers. The
+/// iterator knows how many are left.
 pub struct Iter<'a, K, V> {
     range: Range<'a, K, V>,
     left: usize,
@@ -89,7 +90,8 @@ impl<K: Word, V: Word> DoubleEndedIterator for Iter<'_, K, V> {
 impl<K: Word, V: Word> ExactSizeIterator for Iter<'_, K, V> {}
 impl<K: Word, V: Word> FusedIterator for Iter<'_, K, V> {}
 
-/// All pairs of a map that it owns, from either end. The map is freed with it.
+/// All pairs of a map that the iterator owns, keys ascending, from either end, over an [`IntoIter`](crate::IntoIter) of
+/// numbers. The map is freed with the iterator.
 pub struct IntoIter<K, V> {
     of: crate::IntoIter,
     left: usize,
@@ -137,40 +139,8 @@ impl<K, V> fmt::Debug for IntoIter<K, V> {
     }
 }
 
-/// The pairs of a range of an [`OrdLiveMap`](super::OrdLiveMap), keys ascending.
-pub struct LiveRange<'a, K, V> {
-    of: crate::LiveRange<'a>,
-    _types: PhantomData<fn() -> (K, V)>,
-}
-
-impl<'a, K, V> LiveRange<'a, K, V> {
-    pub(super) fn of(of: crate::LiveRange<'a>) -> Self {
-        LiveRange {
-            of,
-            _types: PhantomData,
-        }
-    }
-}
-
-impl<K, V> Clone for LiveRange<'_, K, V> {
-    fn clone(&self) -> Self {
-        LiveRange::of(self.of.clone())
-    }
-}
-
-impl<K: Word, V: Word> Iterator for LiveRange<'_, K, V> {
-    type Item = (K, V);
-
-    fn next(&mut self) -> Option<(K, V)> {
-        self.of.next().map(pair)
-    }
-
-    fn size_hint(&self) -> (usize, Option<usize>) {
-        self.of.size_hint()
-    }
-}
-
-impl<K: Word, V: Word> FusedIterator for LiveRange<'_, K, V> {}
+/// The pairs of a range of an [`OrdLiveMap`](super::OrdLiveMap), in a program that names their type.
+pub type LiveRange<'a, K, V> = Range<'a, K, V>;
 
 macro_rules! shown {
     ($($of:ty),*) => {$(
@@ -182,4 +152,4 @@ macro_rules! shown {
     )*};
 }
 
-shown!(Range<'_, K, V>, Iter<'_, K, V>, LiveRange<'_, K, V>);
+shown!(Range<'_, K, V>, Iter<'_, K, V>);

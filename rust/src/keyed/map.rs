@@ -8,7 +8,8 @@ use std::hash::{Hash, Hasher};
 use std::marker::PhantomData;
 use std::ops::RangeBounds;
 
-/// An ordered map from `K` to `V`, over a [`Map`] of their numbers.
+/// An ordered map from `K` to `V`, for one thread, over a [`Map`] of their numbers. Proved is the map of numbers beneath.
+/// The numbers of keys and values are this wrapper's, and tested.
 ///
 /// ```
 /// use proved_congee::keyed::OrdMap;
@@ -29,24 +30,69 @@ pub struct OrdMap<K, V> {
 }
 
 impl<K: Word, V: Word> OrdMap<K, V> {
-    /// An empty map. Fails where there is no memory, as each call with a `Result` does, and then changes nothing.
+    /// Makes an empty map without a limit. Returns [`OutOfMemory`] if there is no memory.
+    ///
+    /// ```
+    /// use proved_congee::keyed::OrdMap;
+    ///
+    /// # fn main() -> Result<(), proved_congee::OutOfMemory> {
+    /// assert!(OrdMap::<i32, char>::new()?.is_empty());
+    /// # Ok(())
+    /// # }
+    /// ```
+    #[doc(alias = "default")]
     pub fn new() -> Result<Self, OutOfMemory> {
         Ok(Map::new()?.into())
     }
 
-    /// An empty map whose nodes may take so many bytes, as [`Map::with_limit`] counts them.
+    /// Makes an empty map whose nodes take at most so many bytes by their stated sizes, as [`Map::with_limit`] counts them.
+    ///
+    /// ```
+    /// use proved_congee::keyed::OrdMap;
+    ///
+    /// # fn main() -> Result<(), proved_congee::OutOfMemory> {
+    /// assert_eq!(OrdMap::<i32, char>::with_limit(10_000)?.as_map().limit(), 10_000);
+    /// # Ok(())
+    /// # }
+    /// ```
+    #[doc(alias("capacity", "with_capacity"))]
     pub fn with_limit(bytes: u64) -> Result<Self, OutOfMemory> {
         Ok(Map::with_limit(bytes)?.into())
     }
 
-    /// A map of these pairs. Of two with one key the later one counts.
+    /// Makes a map of the pairs. Of two pairs with one key the later value remains. Returns [`OutOfMemory`] if there is no
+    /// memory.
+    ///
+    /// ```
+    /// use proved_congee::keyed::OrdMap;
+    ///
+    /// # fn main() -> Result<(), proved_congee::OutOfMemory> {
+    /// let squares = OrdMap::try_from_iter((-9i32..9).map(|it| (it, it * it)))?;
+    /// assert_eq!(squares.get(-3), Some(9));
+    /// # Ok(())
+    /// # }
+    /// ```
+    #[doc(alias("collect", "from_iter"))]
     pub fn try_from_iter(pairs: impl IntoIterator<Item = (K, V)>) -> Result<Self, OutOfMemory> {
         let mut map = Self::new()?;
         map.try_extend(pairs)?;
         Ok(map)
     }
 
-    /// Inserts the pairs. The first refusal ends it, as in [`Map::try_extend`]. The error's pair is of numbers.
+    /// Inserts the pairs one by one. The first refused pair ends the call, and the pairs before are in the map. The error
+    /// has their number and the refused pair, as numbers.
+    ///
+    /// ```
+    /// use proved_congee::keyed::OrdMap;
+    ///
+    /// # fn main() -> Result<(), proved_congee::OutOfMemory> {
+    /// let mut map = OrdMap::try_from([(-5, 'a'), (7, 'b'), (9, 'c')])?;
+    /// map.try_extend([(8, 'd'), (7, 'e')])?;
+    /// assert!(map.range(7..9).eq([(7, 'e'), (8, 'd')]));
+    /// # Ok(())
+    /// # }
+    /// ```
+    #[doc(alias("extend", "insert_many"))]
     pub fn try_extend(
         &mut self,
         pairs: impl IntoIterator<Item = (K, V)>,
@@ -57,52 +103,164 @@ impl<K: Word, V: Word> OrdMap<K, V> {
         self.map.try_extend(numbers)
     }
 
-    /// One more map of the same pairs, with the same limit. See [`Map::try_clone`].
+    /// Returns a copy of the map, with the same limit. Returns [`OutOfMemory`] if there is no memory. A map near its limit
+    /// may be refused, since a node that grows is charged beside the node that it replaces.
+    ///
+    /// ```
+    /// use proved_congee::keyed::OrdMap;
+    ///
+    /// # fn main() -> Result<(), proved_congee::OutOfMemory> {
+    /// let map = OrdMap::try_from([(-5, 'a'), (7, 'b')])?;
+    /// let mut other = map.try_clone()?;
+    /// other.remove(7);
+    /// assert_eq!((map.len(), other.len()), (2, 1));
+    /// # Ok(())
+    /// # }
+    /// ```
+    #[doc(alias = "clone")]
     pub fn try_clone(&self) -> Result<Self, OutOfMemory> {
         Ok(self.map.try_clone()?.into())
     }
 
-    /// Moves all pairs of another map into this one. See [`Map::try_append`].
+    /// Moves all pairs of another map into this one. If both maps have a key, the other map's value remains. The first
+    /// refused pair ends the call: the pairs before are in this map, and all further pairs stay in the other map.
+    ///
+    /// ```
+    /// use proved_congee::keyed::OrdMap;
+    ///
+    /// # fn main() -> Result<(), proved_congee::OutOfMemory> {
+    /// let mut map = OrdMap::try_from([(-5, 'a'), (7, 'b')])?;
+    /// let mut other = OrdMap::try_from([(7, 'c'), (9, 'd')])?;
+    /// map.try_append(&mut other)?;
+    /// assert!(map.values().eq(['a', 'c', 'd']) && other.is_empty());
+    /// # Ok(())
+    /// # }
+    /// ```
+    #[doc(alias = "append")]
     pub fn try_append(&mut self, other: &mut Self) -> Result<(), ExtendError> {
         self.map.try_append(&mut other.map)
     }
 
-    /// Moves the pairs from this key on to a new map. See [`Map::try_split_off`].
+    /// Moves the pairs from the key on into a map of their own, with the same limit, and returns that map. Returns
+    /// [`OutOfMemory`], with the map unchanged, if there is no memory or the limit is reached.
+    ///
+    /// ```
+    /// use proved_congee::keyed::OrdMap;
+    ///
+    /// # fn main() -> Result<(), proved_congee::OutOfMemory> {
+    /// let mut map = OrdMap::try_from([(-5, 'a'), (7, 'b'), (9, 'c')])?;
+    /// let from_seven = map.try_split_off(7)?;
+    /// assert!(map.keys().eq([-5]) && from_seven.keys().eq([7, 9]));
+    /// # Ok(())
+    /// # }
+    /// ```
+    #[doc(alias = "split_off")]
     pub fn try_split_off(&mut self, key: K) -> Result<Self, OutOfMemory> {
         Ok(self.map.try_split_off(key.into_u64())?.into())
     }
 
-    /// The value at the key.
+    /// Returns the value at the key, or `None` if the key is absent.
+    ///
+    /// ```
+    /// use proved_congee::keyed::OrdMap;
+    ///
+    /// # fn main() -> Result<(), proved_congee::OutOfMemory> {
+    /// let map = OrdMap::try_from([(-5, 'a'), (7, 'b'), (9, 'c')])?;
+    /// assert_eq!((map.get(7), map.get(8)), (Some('b'), None));
+    /// # Ok(())
+    /// # }
+    /// ```
+    #[doc(alias("find", "index", "view"))]
     #[inline]
     pub fn get(&self, key: K) -> Option<V> {
         self.map.get(key.into_u64()).map(V::from_u64)
     }
 
-    /// The key and its value.
+    /// Returns the key and its value, or `None` if the key is absent.
+    ///
+    /// ```
+    /// use proved_congee::keyed::OrdMap;
+    ///
+    /// # fn main() -> Result<(), proved_congee::OutOfMemory> {
+    /// let map = OrdMap::try_from([(-5, 'a'), (7, 'b'), (9, 'c')])?;
+    /// assert_eq!(map.get_key_value(7), Some((7, 'b')));
+    /// # Ok(())
+    /// # }
+    /// ```
     pub fn get_key_value(&self, key: K) -> Option<(K, V)> {
         Some((key, self.get(key)?))
     }
 
-    /// Whether the key is there.
+    /// Returns whether the map has the key.
+    ///
+    /// ```
+    /// use proved_congee::keyed::OrdMap;
+    ///
+    /// # fn main() -> Result<(), proved_congee::OutOfMemory> {
+    /// let map = OrdMap::try_from([(-5, 'a'), (7, 'b'), (9, 'c')])?;
+    /// assert!(map.contains_key(-5) && !map.contains_key(5));
+    /// # Ok(())
+    /// # }
+    /// ```
+    #[doc(alias = "contains")]
     pub fn contains_key(&self, key: K) -> bool {
         self.map.contains_key(key.into_u64())
     }
 
-    /// Sets the key's value, and returns the previous one.
+    /// Sets the key's value, and returns the previous value, or `None` for a new key. Returns [`OutOfMemory`], with the map
+    /// unchanged, only for a new key that needs a new node or a larger one.
+    ///
+    /// ```
+    /// use proved_congee::keyed::OrdMap;
+    ///
+    /// # fn main() -> Result<(), proved_congee::OutOfMemory> {
+    /// let mut map = OrdMap::try_from([(-5, 'a'), (7, 'b'), (9, 'c')])?;
+    /// assert_eq!(map.insert(-6, 'd')?, None);
+    /// assert_eq!(map.insert(-6, 'e')?, Some('d'));
+    /// # Ok(())
+    /// # }
+    /// ```
+    #[doc(alias("put", "upsert"))]
     #[inline]
     pub fn insert(&mut self, key: K, value: V) -> Result<Option<V>, OutOfMemory> {
         let before = self.map.insert(key.into_u64(), value.into_u64())?;
         Ok(before.map(V::from_u64))
     }
 
-    /// Gives the key the value if it is absent, and returns the value that it has then.
+    /// Inserts the value if the key is absent, and returns the key's value after the call.
+    /// [`insert_absent`](OrdMap::insert_absent) also reports who inserted the value. Returns [`OutOfMemory`], with the map
+    /// unchanged, only for a new key that needs a new node or a larger one.
+    ///
+    /// ```
+    /// use proved_congee::keyed::OrdMap;
+    ///
+    /// # fn main() -> Result<(), proved_congee::OutOfMemory> {
+    /// let mut map = OrdMap::try_from([(-5, 'a'), (7, 'b'), (9, 'c')])?;
+    /// assert_eq!(map.get_or_insert(8, 'd')?, 'd');
+    /// assert_eq!(map.get_or_insert(8, 'e')?, 'd');
+    /// # Ok(())
+    /// # }
+    /// ```
+    #[doc(alias("entry", "or_default", "or_insert"))]
     pub fn get_or_insert(&mut self, key: K, value: V) -> Result<V, OutOfMemory> {
         let it = self.map.get_or_insert(key.into_u64(), value.into_u64())?;
         Ok(V::from_u64(it))
     }
 
-    /// Gives the key the value if it is absent, and returns `None`. Otherwise changes nothing, and returns the current
-    /// value.
+    /// Inserts the value if the key is absent, and returns `None`. Otherwise changes nothing, and returns the present
+    /// value. Returns [`OutOfMemory`], with the map unchanged, only for a new key that needs a new node or a larger one.
+    ///
+    /// ```
+    /// use proved_congee::keyed::OrdMap;
+    ///
+    /// # fn main() -> Result<(), proved_congee::OutOfMemory> {
+    /// let mut map = OrdMap::try_from([(-5, 'a'), (7, 'b'), (9, 'c')])?;
+    /// assert_eq!(map.insert_absent(8, 'd')?, None);
+    /// assert_eq!(map.insert_absent(8, 'e')?, Some('d'));
+    /// # Ok(())
+    /// # }
+    /// ```
+    #[doc(alias("insert_if_absent", "try_insert"))]
     pub fn insert_absent(&mut self, key: K, value: V) -> Result<Option<V>, OutOfMemory> {
         match self.get(key) {
             None => self.insert(key, value),
@@ -110,8 +268,29 @@ impl<K: Word, V: Word> OrdMap<K, V> {
         }
     }
 
-    /// Sets the key's value to what the closure makes of it, or removes the key for `None`. Returns the value before. See
-    /// [`Map::compute`].
+    /// Calls the closure once, with the key's value or `None`. Stores the value that the closure returns, or removes the
+    /// key for `None`. Returns the previous value. Takes two calls of the library. Returns [`OutOfMemory`], with the map
+    /// unchanged, only for a new key that needs a new node or a larger one.
+    ///
+    /// ```
+    /// use proved_congee::keyed::OrdMap;
+    ///
+    /// # fn main() -> Result<(), proved_congee::OutOfMemory> {
+    /// let mut map = OrdMap::try_from([(-5, 'a'), (7, 'b'), (9, 'c')])?;
+    /// assert_eq!(map.compute(7, |value| value.map(|it| it.to_ascii_uppercase()))?, Some('b'));
+    /// assert_eq!(map.compute(9, |_| None)?, Some('c'));
+    /// assert!(map.iter().eq([(-5, 'a'), (7, 'B')]));
+    /// # Ok(())
+    /// # }
+    /// ```
+    #[doc(alias(
+        "alter",
+        "and_modify",
+        "compute_if_present",
+        "compute_or_insert",
+        "get_mut",
+        "update"
+    ))]
     pub fn compute(
         &mut self,
         key: K,
@@ -123,93 +302,275 @@ impl<K: Word, V: Word> OrdMap<K, V> {
         Ok(before.map(V::from_u64))
     }
 
-    /// The key's place, for [`Entry::or_insert`] and [`Entry::and_modify`]. Each of these looks the key up.
+    /// Returns the key's place, for [`Entry::or_insert`] and [`Entry::and_modify`]. Each of these calls looks the key up.
+    ///
+    /// ```
+    /// use proved_congee::keyed::OrdMap;
+    ///
+    /// # fn main() -> Result<(), proved_congee::OutOfMemory> {
+    /// let mut counts = OrdMap::<char, u32>::new()?;
+    /// for letter in "banana".chars() {
+    ///     counts.entry(letter).and_modify(|count| count + 1).or_insert(1)?;
+    /// }
+    /// assert!(counts.iter().eq([('a', 3), ('b', 1), ('n', 2)]));
+    /// # Ok(())
+    /// # }
+    /// ```
     pub fn entry(&mut self, key: K) -> Entry<'_, K, V> {
         Entry { map: self, key }
     }
 
-    /// Removes the key, and returns the value that it had.
+    /// Removes the key, and returns the removed value, or `None` if the key was absent. A removal never fails.
+    ///
+    /// ```
+    /// use proved_congee::keyed::OrdMap;
+    ///
+    /// # fn main() -> Result<(), proved_congee::OutOfMemory> {
+    /// let mut map = OrdMap::try_from([(-5, 'a'), (7, 'b'), (9, 'c')])?;
+    /// assert_eq!((map.remove(7), map.remove(7)), (Some('b'), None));
+    /// # Ok(())
+    /// # }
+    /// ```
+    #[doc(alias("delete", "erase"))]
     #[inline]
     pub fn remove(&mut self, key: K) -> Option<V> {
         self.map.remove(key.into_u64()).map(V::from_u64)
     }
 
-    /// Removes the key, and returns it with the value that it had.
+    /// Removes the key, and returns the key with the removed value, or `None` if the key was absent. A removal never fails.
+    ///
+    /// ```
+    /// use proved_congee::keyed::OrdMap;
+    ///
+    /// # fn main() -> Result<(), proved_congee::OutOfMemory> {
+    /// let mut map = OrdMap::try_from([(-5, 'a'), (7, 'b'), (9, 'c')])?;
+    /// assert_eq!(map.remove_entry(7), Some((7, 'b')));
+    /// # Ok(())
+    /// # }
+    /// ```
     pub fn remove_entry(&mut self, key: K) -> Option<(K, V)> {
         Some((key, self.remove(key)?))
     }
 
-    /// Removes the keys of a range, and returns how many there were.
+    /// Removes the pairs whose keys are within the bounds, and returns how many pairs were removed. Never fails.
+    ///
+    /// ```
+    /// use proved_congee::keyed::OrdMap;
+    ///
+    /// # fn main() -> Result<(), proved_congee::OutOfMemory> {
+    /// let mut map = OrdMap::try_from([(-5, 'a'), (7, 'b'), (9, 'c')])?;
+    /// assert_eq!(map.remove_range(..=7), 2);
+    /// assert!(map.iter().eq([(9, 'c')]));
+    /// # Ok(())
+    /// # }
+    /// ```
+    #[doc(alias = "drain")]
     pub fn remove_range(&mut self, of: impl RangeBounds<K>) -> u64 {
         self.map.remove_range(bounds(of))
     }
 
-    /// Replaces the key's value by `desired` if it is `expected`. Otherwise changes nothing, and returns as an error the
-    /// current value, or `None` if the key is absent.
+    /// Replaces the key's value by `desired` if the value is `expected`. Otherwise changes nothing, and returns as an error
+    /// the present value, or `None` if the key is absent. Needs no memory.
+    ///
+    /// ```
+    /// use proved_congee::keyed::OrdMap;
+    ///
+    /// # fn main() -> Result<(), proved_congee::OutOfMemory> {
+    /// let mut map = OrdMap::try_from([(-5, 'a'), (7, 'b'), (9, 'c')])?;
+    /// assert_eq!(map.compare_exchange(7, 'b', 'd'), Ok(()));
+    /// assert_eq!(map.compare_exchange(7, 'b', 'e'), Err(Some('d')));
+    /// assert_eq!(map.compare_exchange(8, 'b', 'e'), Err(None));
+    /// # Ok(())
+    /// # }
+    /// ```
+    #[doc(alias("cas", "compare_and_swap"))]
     pub fn compare_exchange(&mut self, key: K, expected: V, desired: V) -> Result<(), Option<V>> {
         self.map
             .compare_exchange(key.into_u64(), expected.into_u64(), desired.into_u64())
             .map_err(|found| found.map(V::from_u64))
     }
 
-    /// Removes the key if its value is `expected`. Otherwise changes nothing, and returns as an error the current value, or
-    /// `None` if the key is absent.
+    /// Removes the key if the key's value is `expected`. Otherwise changes nothing, and returns as an error the present
+    /// value, or `None` if the key is absent. A removal never fails.
+    ///
+    /// ```
+    /// use proved_congee::keyed::OrdMap;
+    ///
+    /// # fn main() -> Result<(), proved_congee::OutOfMemory> {
+    /// let mut map = OrdMap::try_from([(-5, 'a'), (7, 'b'), (9, 'c')])?;
+    /// assert_eq!(map.compare_remove(7, 'd'), Err(Some('b')));
+    /// assert_eq!(map.compare_remove(7, 'b'), Ok(()));
+    /// assert_eq!(map.compare_remove(7, 'b'), Err(None));
+    /// # Ok(())
+    /// # }
+    /// ```
+    #[doc(alias = "remove_if")]
     pub fn compare_remove(&mut self, key: K, expected: V) -> Result<(), Option<V>> {
         self.map
             .compare_remove(key.into_u64(), expected.into_u64())
             .map_err(|found| found.map(V::from_u64))
     }
 
-    /// The least key and its value.
-    #[doc(alias = "first_key_value")]
+    /// Returns the pair with the least key, or `None` for an empty map.
+    ///
+    /// ```
+    /// use proved_congee::keyed::OrdMap;
+    ///
+    /// # fn main() -> Result<(), proved_congee::OutOfMemory> {
+    /// let map = OrdMap::try_from([(-5, 'a'), (7, 'b'), (9, 'c')])?;
+    /// assert_eq!(map.first(), Some((-5, 'a')));
+    /// # Ok(())
+    /// # }
+    /// ```
+    #[doc(alias("first_entry", "first_key_value", "min", "peek"))]
     pub fn first(&self) -> Option<(K, V)> {
         self.map.first().map(pair)
     }
 
-    /// The greatest key and its value.
-    #[doc(alias = "last_key_value")]
+    /// Returns the pair with the greatest key, or `None` for an empty map.
+    ///
+    /// ```
+    /// use proved_congee::keyed::OrdMap;
+    ///
+    /// # fn main() -> Result<(), proved_congee::OutOfMemory> {
+    /// let map = OrdMap::try_from([(-5, 'a'), (7, 'b'), (9, 'c')])?;
+    /// assert_eq!(map.last(), Some((9, 'c')));
+    /// # Ok(())
+    /// # }
+    /// ```
+    #[doc(alias("last_entry", "last_key_value", "max"))]
     pub fn last(&self) -> Option<(K, V)> {
         self.map.last().map(pair)
     }
 
-    /// The greatest key up to this one, and its value.
+    /// Returns the pair with the greatest key that is at most `key`, or `None` if no key fits.
+    ///
+    /// ```
+    /// use proved_congee::keyed::OrdMap;
+    ///
+    /// # fn main() -> Result<(), proved_congee::OutOfMemory> {
+    /// let map = OrdMap::try_from([(-5, 'a'), (7, 'b'), (9, 'c')])?;
+    /// assert_eq!((map.floor(8), map.floor(-6)), (Some((7, 'b')), None));
+    /// # Ok(())
+    /// # }
+    /// ```
     pub fn floor(&self, key: K) -> Option<(K, V)> {
         self.map.floor(key.into_u64()).map(pair)
     }
 
-    /// The least key from this one on, and its value.
+    /// Returns the pair with the least key that is at least `key`, or `None` if no key fits.
+    ///
+    /// ```
+    /// use proved_congee::keyed::OrdMap;
+    ///
+    /// # fn main() -> Result<(), proved_congee::OutOfMemory> {
+    /// let map = OrdMap::try_from([(-5, 'a'), (7, 'b'), (9, 'c')])?;
+    /// assert_eq!((map.ceiling(-4), map.ceiling(10)), (Some((7, 'b')), None));
+    /// # Ok(())
+    /// # }
+    /// ```
+    #[doc(alias = "lower_bound")]
     pub fn ceiling(&self, key: K) -> Option<(K, V)> {
         self.map.ceiling(key.into_u64()).map(pair)
     }
 
-    /// The greatest key below this one, and its value.
+    /// Returns the pair with the greatest key below `key`, or `None` if no key fits.
+    ///
+    /// ```
+    /// use proved_congee::keyed::OrdMap;
+    ///
+    /// # fn main() -> Result<(), proved_congee::OutOfMemory> {
+    /// let map = OrdMap::try_from([(-5, 'a'), (7, 'b'), (9, 'c')])?;
+    /// assert_eq!((map.below(7), map.below(-5)), (Some((-5, 'a')), None));
+    /// # Ok(())
+    /// # }
+    /// ```
+    #[doc(alias = "predecessor")]
     pub fn below(&self, key: K) -> Option<(K, V)> {
         self.map.below(key.into_u64()).map(pair)
     }
 
-    /// The least key above this one, and its value.
+    /// Returns the pair with the least key above `key`, or `None` if no key fits.
+    ///
+    /// ```
+    /// use proved_congee::keyed::OrdMap;
+    ///
+    /// # fn main() -> Result<(), proved_congee::OutOfMemory> {
+    /// let map = OrdMap::try_from([(-5, 'a'), (7, 'b'), (9, 'c')])?;
+    /// assert_eq!((map.above(-5), map.above(9)), (Some((7, 'b')), None));
+    /// # Ok(())
+    /// # }
+    /// ```
+    #[doc(alias("successor", "upper_bound"))]
     pub fn above(&self, key: K) -> Option<(K, V)> {
         self.map.above(key.into_u64()).map(pair)
     }
 
-    /// Removes the least key, and returns it with its value.
+    /// Removes the pair with the least key, and returns the pair, or `None` for an empty map. A pop never fails.
+    ///
+    /// ```
+    /// use proved_congee::keyed::OrdMap;
+    ///
+    /// # fn main() -> Result<(), proved_congee::OutOfMemory> {
+    /// let mut map = OrdMap::try_from([(-5, 'a'), (7, 'b'), (9, 'c')])?;
+    /// assert_eq!(map.pop_first(), Some((-5, 'a')));
+    /// assert_eq!(map.first(), Some((7, 'b')));
+    /// # Ok(())
+    /// # }
+    /// ```
+    #[doc(alias("pop", "pop_min"))]
     pub fn pop_first(&mut self) -> Option<(K, V)> {
         self.map.pop_first().map(pair)
     }
 
-    /// Removes the greatest key, and returns it with its value.
+    /// Removes the pair with the greatest key, and returns the pair, or `None` for an empty map. A pop never fails.
+    ///
+    /// ```
+    /// use proved_congee::keyed::OrdMap;
+    ///
+    /// # fn main() -> Result<(), proved_congee::OutOfMemory> {
+    /// let mut map = OrdMap::try_from([(-5, 'a'), (7, 'b'), (9, 'c')])?;
+    /// assert_eq!(map.pop_last(), Some((9, 'c')));
+    /// assert_eq!(map.last(), Some((7, 'b')));
+    /// # Ok(())
+    /// # }
+    /// ```
+    #[doc(alias = "pop_max")]
     pub fn pop_last(&mut self) -> Option<(K, V)> {
         self.map.pop_last().map(pair)
     }
 
-    /// Removes the pairs for which the closure returns false. It is called once for each, keys ascending.
+    /// Calls `keep` with each pair, keys ascending, and removes the pairs for which `keep` returns false. Never fails. The
+    /// pairs are read in pages of 64, and removed one by one.
+    ///
+    /// ```
+    /// use proved_congee::keyed::OrdMap;
+    ///
+    /// # fn main() -> Result<(), proved_congee::OutOfMemory> {
+    /// let mut map = OrdMap::try_from([(-5, 'a'), (7, 'b'), (9, 'c')])?;
+    /// map.retain(|key, value| key > 0 && value != 'c');
+    /// assert!(map.iter().eq([(7, 'b')]));
+    /// # Ok(())
+    /// # }
+    /// ```
     pub fn retain(&mut self, mut keep: impl FnMut(K, V) -> bool) {
         self.map
             .retain(|key, value| keep(K::from_u64(key), V::from_u64(value)));
     }
 
-    /// Removes the pairs for which the closure returns true, each as it is asked for. The other pairs stay, and so do
-    /// those that aren't asked for.
+    /// Removes the pairs for which the closure returns true, each as the iterator comes to it, keys ascending. All other
+    /// pairs stay, and so do the pairs that the iterator hasn't come to.
+    ///
+    /// ```
+    /// use proved_congee::keyed::OrdMap;
+    ///
+    /// # fn main() -> Result<(), proved_congee::OutOfMemory> {
+    /// let mut map = OrdMap::try_from([(-5, 'a'), (7, 'b'), (9, 'c')])?;
+    /// assert!(map.extract_if(|key, _| key > 0).eq([(7, 'b'), (9, 'c')]));
+    /// assert!(map.iter().eq([(-5, 'a')]));
+    /// # Ok(())
+    /// # }
+    /// ```
     pub fn extract_if<'a>(
         &'a mut self,
         mut taken: impl FnMut(K, V) -> bool + 'a,
@@ -225,80 +586,241 @@ impl<K: Word, V: Word> OrdMap<K, V> {
         })
     }
 
-    /// Removes all pairs.
+    /// Removes all pairs, and returns the memory of their nodes. Never fails. If there is no memory for a new root, the
+    /// call reads one path for each pair.
+    ///
+    /// ```
+    /// use proved_congee::keyed::OrdMap;
+    ///
+    /// # fn main() -> Result<(), proved_congee::OutOfMemory> {
+    /// let mut map = OrdMap::try_from([(-5, 'a'), (7, 'b'), (9, 'c')])?;
+    /// map.clear();
+    /// assert!(map.is_empty());
+    /// # Ok(())
+    /// # }
+    /// ```
     pub fn clear(&mut self) {
         self.map.clear();
     }
 
-    /// How many pairs there are, in constant time.
+    /// Returns the number of pairs, in constant time.
+    ///
+    /// ```
+    /// use proved_congee::keyed::OrdMap;
+    ///
+    /// # fn main() -> Result<(), proved_congee::OutOfMemory> {
+    /// let map = OrdMap::try_from([(-5, 'a'), (7, 'b'), (9, 'c')])?;
+    /// assert_eq!(map.len(), 3);
+    /// # Ok(())
+    /// # }
+    /// ```
+    #[doc(alias("count", "size", "value_count"))]
     pub fn len(&self) -> usize {
         self.map.len()
     }
 
-    /// Whether there is no pair, in constant time.
+    /// Returns whether the map has no pair, in constant time.
+    ///
+    /// ```
+    /// use proved_congee::keyed::OrdMap;
+    ///
+    /// # fn main() -> Result<(), proved_congee::OutOfMemory> {
+    /// let map = OrdMap::try_from([(-5, 'a'), (7, 'b'), (9, 'c')])?;
+    /// assert!(!map.is_empty());
+    /// # Ok(())
+    /// # }
+    /// ```
     pub fn is_empty(&self) -> bool {
         self.map.is_empty()
     }
 
-    /// The pairs of a range, from either end.
+    /// Returns the pairs whose keys are within the bounds, keys ascending, from either end.
+    ///
+    /// ```
+    /// use proved_congee::keyed::OrdMap;
+    ///
+    /// # fn main() -> Result<(), proved_congee::OutOfMemory> {
+    /// let map = OrdMap::try_from([(-5, 'a'), (7, 'b'), (9, 'c')])?;
+    /// assert!(map.range(-5..9).eq([(-5, 'a'), (7, 'b')]));
+    /// # Ok(())
+    /// # }
+    /// ```
+    #[doc(alias("cursor", "range_mut", "scan"))]
     pub fn range(&self, of: impl RangeBounds<K>) -> Range<'_, K, V> {
         Range::of(self.map.range(bounds(of)))
     }
 
-    /// All pairs, from either end. The iterator knows how many are left.
+    /// Returns all pairs, keys ascending, from either end. The iterator knows how many are left.
+    ///
+    /// ```
+    /// use proved_congee::keyed::OrdMap;
+    ///
+    /// # fn main() -> Result<(), proved_congee::OutOfMemory> {
+    /// let map = OrdMap::try_from([(-5, 'a'), (7, 'b'), (9, 'c')])?;
+    /// assert!(map.iter().eq([(-5, 'a'), (7, 'b'), (9, 'c')]));
+    /// # Ok(())
+    /// # }
+    /// ```
+    #[doc(alias("for_each", "iter_mut"))]
     pub fn iter(&self) -> Iter<'_, K, V> {
         Iter::of(self.range(..), self.len())
     }
 
-    /// The keys, ascending.
+    /// Returns all keys, ascending, from either end.
+    ///
+    /// ```
+    /// use proved_congee::keyed::OrdMap;
+    ///
+    /// # fn main() -> Result<(), proved_congee::OutOfMemory> {
+    /// let map = OrdMap::try_from([(-5, 'a'), (7, 'b'), (9, 'c')])?;
+    /// assert!(map.keys().eq([-5, 7, 9]));
+    /// # Ok(())
+    /// # }
+    /// ```
     pub fn keys(&self) -> impl DoubleEndedIterator<Item = K> + ExactSizeIterator + '_ {
         self.iter().map(|it| it.0)
     }
 
-    /// The values, keys ascending.
+    /// Returns all values, by ascending keys, from either end.
+    ///
+    /// ```
+    /// use proved_congee::keyed::OrdMap;
+    ///
+    /// # fn main() -> Result<(), proved_congee::OutOfMemory> {
+    /// let map = OrdMap::try_from([(-5, 'a'), (7, 'b'), (9, 'c')])?;
+    /// assert!(map.values().rev().eq(['c', 'b', 'a']));
+    /// # Ok(())
+    /// # }
+    /// ```
+    #[doc(alias = "values_mut")]
     pub fn values(&self) -> impl DoubleEndedIterator<Item = V> + ExactSizeIterator + '_ {
         self.iter().map(|it| it.1)
     }
 
-    /// The keys, ascending, of a map that ends with the iterator.
+    /// Returns all keys, ascending, from either end. The map is freed with the iterator.
+    ///
+    /// ```
+    /// use proved_congee::keyed::OrdMap;
+    ///
+    /// # fn main() -> Result<(), proved_congee::OutOfMemory> {
+    /// let map = OrdMap::try_from([(-5, 'a'), (7, 'b'), (9, 'c')])?;
+    /// assert!(map.into_keys().eq([-5, 7, 9]));
+    /// # Ok(())
+    /// # }
+    /// ```
     pub fn into_keys(self) -> impl DoubleEndedIterator<Item = K> + ExactSizeIterator {
         self.into_iter().map(|it| it.0)
     }
 
-    /// The values, keys ascending, of a map that ends with the iterator.
+    /// Returns all values, by ascending keys, from either end. The map is freed with the iterator.
+    ///
+    /// ```
+    /// use proved_congee::keyed::OrdMap;
+    ///
+    /// # fn main() -> Result<(), proved_congee::OutOfMemory> {
+    /// let map = OrdMap::try_from([(-5, 'a'), (7, 'b'), (9, 'c')])?;
+    /// assert!(map.into_values().eq(['a', 'b', 'c']));
+    /// # Ok(())
+    /// # }
+    /// ```
     pub fn into_values(self) -> impl DoubleEndedIterator<Item = V> + ExactSizeIterator {
         self.into_iter().map(|it| it.1)
     }
 
-    /// The map of the numbers.
+    /// Returns the map of numbers.
+    ///
+    /// ```
+    /// use proved_congee::keyed::OrdMap;
+    ///
+    /// # fn main() -> Result<(), proved_congee::OutOfMemory> {
+    /// let map = OrdMap::try_from([('a', 1u32)])?;
+    /// assert_eq!(map.as_map().get(u64::from('a')), Some(1));
+    /// # Ok(())
+    /// # }
+    /// ```
     pub fn as_map(&self) -> &Map {
         &self.map
     }
 
-    /// The map of the numbers, for calls that this one lacks. A number that no value has is read as `from_u64` reads it.
+    /// Returns the map of numbers, for calls that the typed map lacks. A number that no value has is read as `from_u64`
+    /// reads it.
+    ///
+    /// ```
+    /// use proved_congee::keyed::OrdMap;
+    ///
+    /// # fn main() -> Result<(), proved_congee::OutOfMemory> {
+    /// let mut map = OrdMap::try_from([('a', 1u32)])?;
+    /// map.as_map_mut().add(u64::from('a'), 2)?;
+    /// assert_eq!(map.get('a'), Some(3));
+    /// # Ok(())
+    /// # }
+    /// ```
     pub fn as_map_mut(&mut self) -> &mut Map {
         &mut self.map
     }
 
-    /// The map of the numbers.
+    /// Returns the map of numbers.
+    ///
+    /// ```
+    /// use proved_congee::keyed::OrdMap;
+    ///
+    /// # fn main() -> Result<(), proved_congee::OutOfMemory> {
+    /// let map = OrdMap::try_from([('a', 1u32)])?;
+    /// assert_eq!(map.into_map().first(), Some((u64::from('a'), 1)));
+    /// # Ok(())
+    /// # }
+    /// ```
     pub fn into_map(self) -> Map {
         self.map
     }
 }
 
-/// A key's place in an [`OrdMap`].
+/// A key's place in an [`OrdMap`], by [`OrdMap::entry`].
+///
+/// ```
+/// use proved_congee::keyed::OrdMap;
+///
+/// # fn main() -> Result<(), proved_congee::OutOfMemory> {
+/// let mut stock = OrdMap::<char, u32>::new()?;
+/// stock.entry('a').and_modify(|left| left - 1).or_insert(5)?;
+/// assert_eq!(stock.get('a'), Some(5));
+/// # Ok(())
+/// # }
+/// ```
 pub struct Entry<'a, K, V> {
     map: &'a mut OrdMap<K, V>,
     key: K,
 }
 
 impl<K: Word, V: Word> Entry<'_, K, V> {
-    /// The key.
+    /// Returns the key.
+    ///
+    /// ```
+    /// use proved_congee::keyed::OrdMap;
+    ///
+    /// # fn main() -> Result<(), proved_congee::OutOfMemory> {
+    /// let mut map = OrdMap::<i32, char>::new()?;
+    /// assert_eq!(map.entry(-5).key(), -5);
+    /// # Ok(())
+    /// # }
+    /// ```
     pub fn key(&self) -> K {
         self.key
     }
 
-    /// Sets the key's value to what the closure makes of it, if there is one.
+    /// Sets the value of a present key to what the closure returns for it. An absent key stays absent.
+    ///
+    /// ```
+    /// use proved_congee::keyed::OrdMap;
+    ///
+    /// # fn main() -> Result<(), proved_congee::OutOfMemory> {
+    /// let mut map = OrdMap::try_from([(-5, 1u32)])?;
+    /// map.entry(-5).and_modify(|value| value + 1);
+    /// map.entry(7).and_modify(|value| value + 1);
+    /// assert!(map.iter().eq([(-5, 2)]));
+    /// # Ok(())
+    /// # }
+    /// ```
     pub fn and_modify(self, f: impl FnOnce(V) -> V) -> Self {
         if let Some(value) = self.map.get(self.key) {
             // (the key is there, so it takes no memory)
@@ -307,12 +829,36 @@ impl<K: Word, V: Word> Entry<'_, K, V> {
         self
     }
 
-    /// Gives the key the value if it is absent, and returns the value that it has then.
+    /// Inserts the value if the key is absent, and returns the key's value after the call. Returns [`OutOfMemory`], with
+    /// the map unchanged, only for a new key that needs a new node or a larger one.
+    ///
+    /// ```
+    /// use proved_congee::keyed::OrdMap;
+    ///
+    /// # fn main() -> Result<(), proved_congee::OutOfMemory> {
+    /// let mut map = OrdMap::<i32, char>::new()?;
+    /// assert_eq!(map.entry(-5).or_insert('a')?, 'a');
+    /// assert_eq!(map.entry(-5).or_insert('b')?, 'a');
+    /// # Ok(())
+    /// # }
+    /// ```
     pub fn or_insert(self, value: V) -> Result<V, OutOfMemory> {
         self.map.get_or_insert(self.key, value)
     }
 
-    /// Gives the key the closure's value if it is absent, and returns the value that it has then.
+    /// Inserts the closure's value if the key is absent, and returns the key's value after the call. Returns
+    /// [`OutOfMemory`], with the map unchanged, only for a new key that needs a new node or a larger one.
+    ///
+    /// ```
+    /// use proved_congee::keyed::OrdMap;
+    ///
+    /// # fn main() -> Result<(), proved_congee::OutOfMemory> {
+    /// let mut map = OrdMap::<i32, char>::new()?;
+    /// assert_eq!(map.entry(-5).or_insert_with(|| 'a')?, 'a');
+    /// assert_eq!(map.entry(-5).or_insert_with(|| unreachable!())?, 'a');
+    /// # Ok(())
+    /// # }
+    /// ```
     pub fn or_insert_with(self, f: impl FnOnce() -> V) -> Result<V, OutOfMemory> {
         match self.map.get(self.key) {
             Some(value) => Ok(value),

@@ -7,6 +7,7 @@ use std::marker::PhantomData;
 use std::ops::RangeBounds;
 
 /// A map from `K` to `V` that threads share, each by an [`OrdGuard`] of its own, over a [`SharedMap`] of their numbers.
+/// Proved is the map of numbers beneath. The numbers of keys and values are this wrapper's, and tested.
 ///
 /// ```
 /// use proved_congee::keyed::OrdSharedMap;
@@ -31,33 +32,91 @@ use std::ops::RangeBounds;
 /// # Ok(())
 /// # }
 /// ```
+#[doc(alias = "concurrent")]
 pub struct OrdSharedMap<K, V> {
     map: SharedMap,
     _types: PhantomData<fn() -> (K, V)>,
 }
 
 impl<K: Word, V: Word> OrdSharedMap<K, V> {
-    /// An empty map. Fails where there is no memory.
+    /// Makes an empty map under one lock without a limit. Returns [`OutOfMemory`] if there is no memory.
+    ///
+    /// ```
+    /// use proved_congee::keyed::OrdSharedMap;
+    ///
+    /// # fn main() -> Result<(), proved_congee::OutOfMemory> {
+    /// assert!(OrdSharedMap::<i32, char>::new()?.pin()?.is_empty());
+    /// # Ok(())
+    /// # }
+    /// ```
+    #[doc(alias = "default")]
     pub fn new() -> Result<Self, OutOfMemory> {
         Ok(SharedMap::new()?.into())
     }
 
-    /// An empty map whose nodes may take so many bytes, as [`SharedMap::with_limit`] counts them.
+    /// Makes an empty map under one lock whose nodes take at most so many bytes, as [`SharedMap::with_limit`] counts them.
+    ///
+    /// ```
+    /// use proved_congee::keyed::OrdSharedMap;
+    ///
+    /// # fn main() -> Result<(), proved_congee::OutOfMemory> {
+    /// assert_eq!(OrdSharedMap::<i32, char>::with_limit(10_000)?.as_map().limit(), 10_000);
+    /// # Ok(())
+    /// # }
+    /// ```
+    #[doc(alias("capacity", "with_capacity"))]
     pub fn with_limit(bytes: u64) -> Result<Self, OutOfMemory> {
         Ok(SharedMap::with_limit(bytes)?.into())
     }
 
-    /// An empty map in 64 shards. See [`SharedMap::sharded`].
+    /// Makes an empty map in 64 shards with a lock each, as [`SharedMap::sharded`].
+    ///
+    /// ```
+    /// use proved_congee::keyed::OrdSharedMap;
+    ///
+    /// # fn main() -> Result<(), proved_congee::OutOfMemory> {
+    /// let guard = OrdSharedMap::<i32, char>::sharded()?.pin()?;
+    /// guard.extend([(-500, 'a'), (500, 'b')])?;
+    /// assert_eq!(guard.first(), Some((-500, 'a')));
+    /// # Ok(())
+    /// # }
+    /// ```
+    #[doc(alias = "shards")]
     pub fn sharded() -> Result<Self, OutOfMemory> {
         Ok(SharedMap::sharded()?.into())
     }
 
-    /// A guard, by which one thread at a time calls the map. See [`SharedMap::pin`].
+    /// Makes a guard, by which one thread at a time calls the map, as [`SharedMap::pin`]. Returns [`OutOfMemory`] if there
+    /// is no memory for a guard.
+    ///
+    /// ```
+    /// use proved_congee::keyed::OrdSharedMap;
+    ///
+    /// # fn main() -> Result<(), proved_congee::OutOfMemory> {
+    /// let map = OrdSharedMap::<i32, char>::new()?;
+    /// let (one, other) = (map.pin()?, map.pin()?);
+    /// one.insert(-5, 'a')?;
+    /// assert_eq!(other.get(-5), Some('a'));
+    /// # Ok(())
+    /// # }
+    /// ```
+    #[doc(alias("epoch", "handle"))]
     pub fn pin(&self) -> Result<OrdGuard<K, V>, OutOfMemory> {
         Ok(self.map.pin()?.into())
     }
 
-    /// The map of the numbers.
+    /// Returns the map of numbers.
+    ///
+    /// ```
+    /// use proved_congee::keyed::OrdSharedMap;
+    ///
+    /// # fn main() -> Result<(), proved_congee::OutOfMemory> {
+    /// let map = OrdSharedMap::<char, u32>::new()?;
+    /// map.pin()?.insert('a', 1)?;
+    /// assert_eq!(map.as_map().pin()?.get(u64::from('a')), Some(1));
+    /// # Ok(())
+    /// # }
+    /// ```
     pub fn as_map(&self) -> &SharedMap {
         &self.map
     }
@@ -78,60 +137,204 @@ impl<K, V> fmt::Debug for OrdSharedMap<K, V> {
     }
 }
 
-/// One caller of an [`OrdSharedMap`]: a thread's at a time. Its calls wait as those of a [`Guard`] do. For forms
-/// that don't wait take [`as_guard`](OrdGuard::as_guard).
+/// One caller of an [`OrdSharedMap`]: a thread's at a time. Calls wait as those of a [`Guard`] do, and
+/// [`as_guard`](OrdGuard::as_guard) has the forms that don't wait. Proved is the map of numbers beneath. The numbers of
+/// keys and values are this wrapper's, and tested.
 pub struct OrdGuard<K, V> {
     guard: Guard,
     _types: PhantomData<fn() -> (K, V)>,
 }
 
 impl<K: Word, V: Word> OrdGuard<K, V> {
-    /// One more guard of the same map, which has seen what this one had.
+    /// Makes one more guard of the same map, which begins with the history that this guard has seen. Returns
+    /// [`OutOfMemory`] if there is no memory for one.
+    ///
+    /// ```
+    /// use proved_congee::keyed::OrdSharedMap;
+    ///
+    /// # fn main() -> Result<(), proved_congee::OutOfMemory> {
+    /// let guard = OrdSharedMap::<i32, char>::new()?.pin()?;
+    /// guard.insert(-5, 'a')?;
+    /// assert_eq!(guard.try_clone()?.get(-5), Some('a'));
+    /// # Ok(())
+    /// # }
+    /// ```
+    #[doc(alias = "clone")]
     pub fn try_clone(&self) -> Result<Self, OutOfMemory> {
         Ok(self.guard.try_clone()?.into())
     }
 
-    /// The value at the key.
+    /// Returns the value at the key, or `None` if the key is absent. While other calls have the lock, the call yields and
+    /// tries again.
+    ///
+    /// ```
+    /// use proved_congee::keyed::OrdSharedMap;
+    ///
+    /// # fn main() -> Result<(), proved_congee::OutOfMemory> {
+    /// let guard = OrdSharedMap::<i32, char>::new()?.pin()?;
+    /// guard.extend([(-5, 'a'), (7, 'b'), (9, 'c')])?;
+    /// assert_eq!((guard.get(7), guard.get(8)), (Some('b'), None));
+    /// # Ok(())
+    /// # }
+    /// ```
+    #[doc(alias("find", "index", "view"))]
     #[inline]
     pub fn get(&self, key: K) -> Option<V> {
         self.guard.get(key.into_u64()).map(V::from_u64)
     }
 
-    /// Whether the key is there.
+    /// Returns whether the map has the key. While other calls have the lock, the call yields and tries again.
+    ///
+    /// ```
+    /// use proved_congee::keyed::OrdSharedMap;
+    ///
+    /// # fn main() -> Result<(), proved_congee::OutOfMemory> {
+    /// let guard = OrdSharedMap::<i32, char>::new()?.pin()?;
+    /// guard.extend([(-5, 'a'), (7, 'b'), (9, 'c')])?;
+    /// assert!(guard.contains_key(-5) && !guard.contains_key(5));
+    /// # Ok(())
+    /// # }
+    /// ```
+    #[doc(alias = "contains")]
     pub fn contains_key(&self, key: K) -> bool {
         self.guard.contains_key(key.into_u64())
     }
 
-    /// Sets the key's value, and returns the previous one. Refused where there is no memory.
+    /// Sets the key's value, and returns the previous value, or `None` for a new key. While other calls have the lock, the
+    /// call yields and tries again. Returns [`OutOfMemory`], with nothing changed, if there is no memory or the limit is
+    /// reached. A present key needs no memory.
+    ///
+    /// ```
+    /// use proved_congee::keyed::OrdSharedMap;
+    ///
+    /// # fn main() -> Result<(), proved_congee::OutOfMemory> {
+    /// let guard = OrdSharedMap::<i32, char>::new()?.pin()?;
+    /// guard.extend([(-5, 'a'), (7, 'b'), (9, 'c')])?;
+    /// assert_eq!(guard.insert(-6, 'd')?, None);
+    /// assert_eq!(guard.insert(-6, 'e')?, Some('d'));
+    /// # Ok(())
+    /// # }
+    /// ```
+    #[doc(alias("put", "upsert"))]
     #[inline]
     pub fn insert(&self, key: K, value: V) -> Result<Option<V>, OutOfMemory> {
         let before = self.guard.insert(key.into_u64(), value.into_u64())?;
         Ok(before.map(V::from_u64))
     }
 
-    /// Inserts the pairs, one after another. The first refusal ends it. The error's pair is of numbers.
-    pub fn try_extend(&self, pairs: impl IntoIterator<Item = (K, V)>) -> Result<(), ExtendError> {
+    /// Inserts the pairs one by one, and waits where [`insert`](OrdGuard::insert) waits. Other calls come in between. The
+    /// first refused pair ends the call, and the pairs before are in the map. The error has their number and the refused
+    /// pair, as numbers.
+    ///
+    /// ```
+    /// use proved_congee::keyed::OrdSharedMap;
+    ///
+    /// # fn main() -> Result<(), Box<dyn std::error::Error>> {
+    /// let guard = OrdSharedMap::<i32, char>::new()?.pin()?;
+    /// guard.extend([(-5, 'a'), (7, 'b'), (9, 'c')])?;
+    /// guard.extend([(8, 'd'), (7, 'e')])?;
+    /// assert!(guard.range(7..9).eq([(7, 'e'), (8, 'd')]));
+    /// # Ok(())
+    /// # }
+    /// ```
+    #[doc(alias = "insert_many")]
+    pub fn extend(&self, pairs: impl IntoIterator<Item = (K, V)>) -> Result<(), ExtendError> {
         let numbers = pairs
             .into_iter()
             .map(|(key, value)| (key.into_u64(), value.into_u64()));
-        self.guard.try_extend(numbers)
+        self.guard.extend(numbers)
     }
 
-    /// Gives the key the value if it is absent, and returns the value that it has then. Refused where there is no memory.
+    /// Inserts the pairs, and waits, as [`extend`](OrdGuard::extend), which is the call's name now: other calls of a guard
+    /// with `try_` don't wait.
+    ///
+    /// ```
+    /// # #![allow(deprecated)]
+    /// use proved_congee::keyed::OrdSharedMap;
+    ///
+    /// # fn main() -> Result<(), Box<dyn std::error::Error>> {
+    /// let guard = OrdSharedMap::<i32, char>::new()?.pin()?;
+    /// guard.try_extend([(-5, 'a'), (7, 'b')])?;
+    /// assert_eq!(guard.len(), 2);
+    /// # Ok(())
+    /// # }
+    /// ```
+    #[doc(alias("extend", "insert_many"))]
+    #[deprecated(note = "it waits: use `extend`")]
+    pub fn try_extend(&self, pairs: impl IntoIterator<Item = (K, V)>) -> Result<(), ExtendError> {
+        self.extend(pairs)
+    }
+
+    /// Inserts the value if the key is absent, and returns the key's value after the call.
+    /// [`insert_absent`](OrdGuard::insert_absent) also reports who inserted the value. While other calls have the lock, the
+    /// call yields and tries again. Returns [`OutOfMemory`], with nothing changed, if there is no memory or the limit is
+    /// reached. A present key needs no memory.
+    ///
+    /// ```
+    /// use proved_congee::keyed::OrdSharedMap;
+    ///
+    /// # fn main() -> Result<(), proved_congee::OutOfMemory> {
+    /// let guard = OrdSharedMap::<i32, char>::new()?.pin()?;
+    /// guard.extend([(-5, 'a'), (7, 'b'), (9, 'c')])?;
+    /// assert_eq!(guard.get_or_insert(8, 'd')?, 'd');
+    /// assert_eq!(guard.get_or_insert(8, 'e')?, 'd');
+    /// # Ok(())
+    /// # }
+    /// ```
+    #[doc(alias("entry", "or_default", "or_insert"))]
     pub fn get_or_insert(&self, key: K, value: V) -> Result<V, OutOfMemory> {
         let it = self.guard.get_or_insert(key.into_u64(), value.into_u64())?;
         Ok(V::from_u64(it))
     }
 
-    /// Gives the key the value if it is absent, and returns `None` to the guard that inserted it. To all others it returns
-    /// the current value. Refused where there is no memory.
+    /// Inserts the value if the key is absent, and returns `None`. Otherwise changes nothing, and returns the present
+    /// value. Of threads that claim one key at once, one gets `None`. While other calls have the lock, the call yields and
+    /// tries again. Returns [`OutOfMemory`], with nothing changed, if there is no memory or the limit is reached. A present
+    /// key needs no memory.
+    ///
+    /// ```
+    /// use proved_congee::keyed::OrdSharedMap;
+    ///
+    /// # fn main() -> Result<(), proved_congee::OutOfMemory> {
+    /// let guard = OrdSharedMap::<i32, char>::new()?.pin()?;
+    /// guard.extend([(-5, 'a'), (7, 'b'), (9, 'c')])?;
+    /// assert_eq!(guard.insert_absent(8, 'd')?, None);
+    /// assert_eq!(guard.insert_absent(8, 'e')?, Some('d'));
+    /// # Ok(())
+    /// # }
+    /// ```
+    #[doc(alias("insert_if_absent", "try_insert"))]
     pub fn insert_absent(&self, key: K, value: V) -> Result<Option<V>, OutOfMemory> {
         let found = self.guard.insert_absent(key.into_u64(), value.into_u64())?;
         Ok(found.map(V::from_u64))
     }
 
-    /// Sets the key's value to what the closure makes of it, or removes the key for `None`. Returns the value before. The
-    /// closure is called under no lock, and again where another guard changed the key. See [`Guard::compute`].
+    /// Calls the closure with the key's value or `None`. Stores the value that the closure returns, or removes the key for
+    /// `None`. Returns the previous value. If another call changes the key meanwhile, the closure is called again with the
+    /// new value. The closure is called outside of the lock. While other calls have the lock, the call yields and tries
+    /// again. Returns [`OutOfMemory`], with nothing changed, if there is no memory or the limit is reached. A present key
+    /// needs no memory.
+    ///
+    /// ```
+    /// use proved_congee::keyed::OrdSharedMap;
+    ///
+    /// # fn main() -> Result<(), proved_congee::OutOfMemory> {
+    /// let guard = OrdSharedMap::<i32, char>::new()?.pin()?;
+    /// guard.extend([(-5, 'a'), (7, 'b'), (9, 'c')])?;
+    /// assert_eq!(guard.compute(7, |value| value.map(|it| it.to_ascii_uppercase()))?, Some('b'));
+    /// assert_eq!(guard.compute(9, |_| None)?, Some('c'));
+    /// assert!(guard.iter().eq([(-5, 'a'), (7, 'B')]));
+    /// # Ok(())
+    /// # }
+    /// ```
+    #[doc(alias(
+        "alter",
+        "and_modify",
+        "compute_if_present",
+        "compute_or_insert",
+        "get_mut",
+        "update"
+    ))]
     pub fn compute(
         &self,
         key: K,
@@ -143,105 +346,358 @@ impl<K: Word, V: Word> OrdGuard<K, V> {
         Ok(before.map(V::from_u64))
     }
 
-    /// Removes the key, and returns the value that it had.
+    /// Removes the key, and returns the removed value, or `None` if the key was absent. A removal is never out of memory.
+    /// While other calls have the lock, the call yields and tries again.
+    ///
+    /// ```
+    /// use proved_congee::keyed::OrdSharedMap;
+    ///
+    /// # fn main() -> Result<(), proved_congee::OutOfMemory> {
+    /// let guard = OrdSharedMap::<i32, char>::new()?.pin()?;
+    /// guard.extend([(-5, 'a'), (7, 'b'), (9, 'c')])?;
+    /// assert_eq!((guard.remove(7), guard.remove(7)), (Some('b'), None));
+    /// # Ok(())
+    /// # }
+    /// ```
+    #[doc(alias("delete", "erase"))]
     #[inline]
     pub fn remove(&self, key: K) -> Option<V> {
         self.guard.remove(key.into_u64()).map(V::from_u64)
     }
 
-    /// Replaces the key's value by `desired` if it is `expected`. Otherwise changes nothing, and returns as an error the
-    /// current value, or `None` if the key is absent.
+    /// Replaces the key's value by `desired` if the value is `expected`. Otherwise changes nothing, and returns as an error
+    /// the present value, or `None` if the key is absent. Needs no memory. While other calls have the lock, the call yields
+    /// and tries again.
+    ///
+    /// ```
+    /// use proved_congee::keyed::OrdSharedMap;
+    ///
+    /// # fn main() -> Result<(), proved_congee::OutOfMemory> {
+    /// let guard = OrdSharedMap::<i32, char>::new()?.pin()?;
+    /// guard.extend([(-5, 'a'), (7, 'b'), (9, 'c')])?;
+    /// assert_eq!(guard.compare_exchange(7, 'b', 'd'), Ok(()));
+    /// assert_eq!(guard.compare_exchange(7, 'b', 'e'), Err(Some('d')));
+    /// assert_eq!(guard.compare_exchange(8, 'b', 'e'), Err(None));
+    /// # Ok(())
+    /// # }
+    /// ```
+    #[doc(alias("cas", "compare_and_swap"))]
     pub fn compare_exchange(&self, key: K, expected: V, desired: V) -> Result<(), Option<V>> {
         self.guard
             .compare_exchange(key.into_u64(), expected.into_u64(), desired.into_u64())
             .map_err(|found| found.map(V::from_u64))
     }
 
-    /// Removes the key if its value is `expected`. Otherwise changes nothing, and returns as an error the current value, or
-    /// `None` if the key is absent.
+    /// Removes the key if the key's value is `expected`. Otherwise changes nothing, and returns as an error the present
+    /// value, or `None` if the key is absent. A removal is never out of memory. While other calls have the lock, the call
+    /// yields and tries again.
+    ///
+    /// ```
+    /// use proved_congee::keyed::OrdSharedMap;
+    ///
+    /// # fn main() -> Result<(), proved_congee::OutOfMemory> {
+    /// let guard = OrdSharedMap::<i32, char>::new()?.pin()?;
+    /// guard.extend([(-5, 'a'), (7, 'b'), (9, 'c')])?;
+    /// assert_eq!(guard.compare_remove(7, 'd'), Err(Some('b')));
+    /// assert_eq!(guard.compare_remove(7, 'b'), Ok(()));
+    /// assert_eq!(guard.compare_remove(7, 'b'), Err(None));
+    /// # Ok(())
+    /// # }
+    /// ```
+    #[doc(alias = "remove_if")]
     pub fn compare_remove(&self, key: K, expected: V) -> Result<(), Option<V>> {
         self.guard
             .compare_remove(key.into_u64(), expected.into_u64())
             .map_err(|found| found.map(V::from_u64))
     }
 
-    /// The least key and its value.
+    /// Returns the pair with the least key, or `None` for an empty map. While other calls have the lock, the call yields
+    /// and tries again.
+    ///
+    /// ```
+    /// use proved_congee::keyed::OrdSharedMap;
+    ///
+    /// # fn main() -> Result<(), proved_congee::OutOfMemory> {
+    /// let guard = OrdSharedMap::<i32, char>::new()?.pin()?;
+    /// guard.extend([(-5, 'a'), (7, 'b'), (9, 'c')])?;
+    /// assert_eq!(guard.first(), Some((-5, 'a')));
+    /// # Ok(())
+    /// # }
+    /// ```
+    #[doc(alias("first_entry", "first_key_value", "min", "peek"))]
     pub fn first(&self) -> Option<(K, V)> {
         self.guard.first().map(pair)
     }
 
-    /// The greatest key and its value.
+    /// Returns the pair with the greatest key, or `None` for an empty map. While other calls have the lock, the call yields
+    /// and tries again.
+    ///
+    /// ```
+    /// use proved_congee::keyed::OrdSharedMap;
+    ///
+    /// # fn main() -> Result<(), proved_congee::OutOfMemory> {
+    /// let guard = OrdSharedMap::<i32, char>::new()?.pin()?;
+    /// guard.extend([(-5, 'a'), (7, 'b'), (9, 'c')])?;
+    /// assert_eq!(guard.last(), Some((9, 'c')));
+    /// # Ok(())
+    /// # }
+    /// ```
+    #[doc(alias("last_entry", "last_key_value", "max"))]
     pub fn last(&self) -> Option<(K, V)> {
         self.guard.last().map(pair)
     }
 
-    /// The greatest key up to this one, and its value.
+    /// Returns the pair with the greatest key that is at most `key`, or `None` if no key fits. While other calls have the
+    /// lock, the call yields and tries again.
+    ///
+    /// ```
+    /// use proved_congee::keyed::OrdSharedMap;
+    ///
+    /// # fn main() -> Result<(), proved_congee::OutOfMemory> {
+    /// let guard = OrdSharedMap::<i32, char>::new()?.pin()?;
+    /// guard.extend([(-5, 'a'), (7, 'b'), (9, 'c')])?;
+    /// assert_eq!((guard.floor(8), guard.floor(-6)), (Some((7, 'b')), None));
+    /// # Ok(())
+    /// # }
+    /// ```
     pub fn floor(&self, key: K) -> Option<(K, V)> {
         self.guard.floor(key.into_u64()).map(pair)
     }
 
-    /// The least key from this one on, and its value.
+    /// Returns the pair with the least key that is at least `key`, or `None` if no key fits. While other calls have the
+    /// lock, the call yields and tries again.
+    ///
+    /// ```
+    /// use proved_congee::keyed::OrdSharedMap;
+    ///
+    /// # fn main() -> Result<(), proved_congee::OutOfMemory> {
+    /// let guard = OrdSharedMap::<i32, char>::new()?.pin()?;
+    /// guard.extend([(-5, 'a'), (7, 'b'), (9, 'c')])?;
+    /// assert_eq!((guard.ceiling(-4), guard.ceiling(10)), (Some((7, 'b')), None));
+    /// # Ok(())
+    /// # }
+    /// ```
+    #[doc(alias = "lower_bound")]
     pub fn ceiling(&self, key: K) -> Option<(K, V)> {
         self.guard.ceiling(key.into_u64()).map(pair)
     }
 
-    /// The greatest key below this one, and its value.
+    /// Returns the pair with the greatest key below `key`, or `None` if no key fits. While other calls have the lock, the
+    /// call yields and tries again.
+    ///
+    /// ```
+    /// use proved_congee::keyed::OrdSharedMap;
+    ///
+    /// # fn main() -> Result<(), proved_congee::OutOfMemory> {
+    /// let guard = OrdSharedMap::<i32, char>::new()?.pin()?;
+    /// guard.extend([(-5, 'a'), (7, 'b'), (9, 'c')])?;
+    /// assert_eq!((guard.below(7), guard.below(-5)), (Some((-5, 'a')), None));
+    /// # Ok(())
+    /// # }
+    /// ```
+    #[doc(alias = "predecessor")]
     pub fn below(&self, key: K) -> Option<(K, V)> {
         self.guard.below(key.into_u64()).map(pair)
     }
 
-    /// The least key above this one, and its value.
+    /// Returns the pair with the least key above `key`, or `None` if no key fits. While other calls have the lock, the call
+    /// yields and tries again.
+    ///
+    /// ```
+    /// use proved_congee::keyed::OrdSharedMap;
+    ///
+    /// # fn main() -> Result<(), proved_congee::OutOfMemory> {
+    /// let guard = OrdSharedMap::<i32, char>::new()?.pin()?;
+    /// guard.extend([(-5, 'a'), (7, 'b'), (9, 'c')])?;
+    /// assert_eq!((guard.above(-5), guard.above(9)), (Some((7, 'b')), None));
+    /// # Ok(())
+    /// # }
+    /// ```
+    #[doc(alias("successor", "upper_bound"))]
     pub fn above(&self, key: K) -> Option<(K, V)> {
         self.guard.above(key.into_u64()).map(pair)
     }
 
-    /// Removes the least key, and returns it with its value.
+    /// Removes the pair with the least key, and returns the pair, or `None` for an empty map. A pop is never out of memory.
+    /// While other calls have the lock, the call yields and tries again.
+    ///
+    /// ```
+    /// use proved_congee::keyed::OrdSharedMap;
+    ///
+    /// # fn main() -> Result<(), proved_congee::OutOfMemory> {
+    /// let guard = OrdSharedMap::<i32, char>::new()?.pin()?;
+    /// guard.extend([(-5, 'a'), (7, 'b'), (9, 'c')])?;
+    /// assert_eq!(guard.pop_first(), Some((-5, 'a')));
+    /// assert_eq!(guard.first(), Some((7, 'b')));
+    /// # Ok(())
+    /// # }
+    /// ```
+    #[doc(alias("pop", "pop_min"))]
     pub fn pop_first(&self) -> Option<(K, V)> {
         self.guard.pop_first().map(pair)
     }
 
-    /// Removes the greatest key, and returns it with its value.
+    /// Removes the pair with the greatest key, and returns the pair, or `None` for an empty map. A pop is never out of
+    /// memory. While other calls have the lock, the call yields and tries again.
+    ///
+    /// ```
+    /// use proved_congee::keyed::OrdSharedMap;
+    ///
+    /// # fn main() -> Result<(), proved_congee::OutOfMemory> {
+    /// let guard = OrdSharedMap::<i32, char>::new()?.pin()?;
+    /// guard.extend([(-5, 'a'), (7, 'b'), (9, 'c')])?;
+    /// assert_eq!(guard.pop_last(), Some((9, 'c')));
+    /// assert_eq!(guard.last(), Some((7, 'b')));
+    /// # Ok(())
+    /// # }
+    /// ```
+    #[doc(alias = "pop_max")]
     pub fn pop_last(&self) -> Option<(K, V)> {
         self.guard.pop_last().map(pair)
     }
 
-    /// Removes the keys of a range, page by page, and returns how many. See [`Guard::remove_range`].
+    /// Removes the pairs whose keys are within the bounds, one by one, and returns how many pairs this call removed. Other
+    /// calls come in between. While other calls have the lock, the call yields and tries again. Never out of memory.
+    ///
+    /// ```
+    /// use proved_congee::keyed::OrdSharedMap;
+    ///
+    /// # fn main() -> Result<(), proved_congee::OutOfMemory> {
+    /// let guard = OrdSharedMap::<i32, char>::new()?.pin()?;
+    /// guard.extend([(-5, 'a'), (7, 'b'), (9, 'c')])?;
+    /// assert_eq!(guard.remove_range(..=7), 2);
+    /// assert!(guard.iter().eq([(9, 'c')]));
+    /// # Ok(())
+    /// # }
+    /// ```
+    #[doc(alias = "drain")]
     pub fn remove_range(&self, of: impl RangeBounds<K>) -> u64 {
         self.guard.remove_range(bounds(of))
     }
 
-    /// Removes the pairs for which the closure returns false, while they have the value that it saw. See [`Guard::retain`].
+    /// Calls `keep` with each pair, keys ascending, outside of the lock. Removes the pairs for which `keep` returns false,
+    /// unless another call has changed the value meanwhile. Other calls come in between. While other calls have the lock,
+    /// the call yields and tries again. Never out of memory.
+    ///
+    /// ```
+    /// use proved_congee::keyed::OrdSharedMap;
+    ///
+    /// # fn main() -> Result<(), proved_congee::OutOfMemory> {
+    /// let guard = OrdSharedMap::<i32, char>::new()?.pin()?;
+    /// guard.extend([(-5, 'a'), (7, 'b'), (9, 'c')])?;
+    /// guard.retain(|key, value| key > 0 && value != 'c');
+    /// assert!(guard.iter().eq([(7, 'b')]));
+    /// # Ok(())
+    /// # }
+    /// ```
     pub fn retain(&self, mut keep: impl FnMut(K, V) -> bool) {
         self.guard
             .retain(|key, value| keep(K::from_u64(key), V::from_u64(value)));
     }
 
-    /// Removes all pairs, at one moment.
+    /// Removes all pairs, at one moment. Other calls wait meanwhile. Never out of memory. While other calls have the lock,
+    /// the call yields and tries again.
+    ///
+    /// ```
+    /// use proved_congee::keyed::OrdSharedMap;
+    ///
+    /// # fn main() -> Result<(), proved_congee::OutOfMemory> {
+    /// let guard = OrdSharedMap::<i32, char>::new()?.pin()?;
+    /// guard.extend([(-5, 'a'), (7, 'b'), (9, 'c')])?;
+    /// guard.clear();
+    /// assert!(guard.is_empty());
+    /// # Ok(())
+    /// # }
+    /// ```
     pub fn clear(&self) {
         self.guard.clear();
     }
 
-    /// How many pairs there are.
+    /// Returns the exact number of pairs, in constant time for each shard. While other calls have the lock, the call yields
+    /// and tries again.
+    ///
+    /// ```
+    /// use proved_congee::keyed::OrdSharedMap;
+    ///
+    /// # fn main() -> Result<(), proved_congee::OutOfMemory> {
+    /// let guard = OrdSharedMap::<i32, char>::new()?.pin()?;
+    /// guard.extend([(-5, 'a'), (7, 'b'), (9, 'c')])?;
+    /// assert_eq!(guard.len(), 3);
+    /// # Ok(())
+    /// # }
+    /// ```
+    #[doc(alias("count", "size", "value_count"))]
     pub fn len(&self) -> usize {
         self.guard.len()
     }
 
-    /// Whether there is no pair.
+    /// Returns whether the map has no pair, in constant time for each shard. While other calls have the lock, the call
+    /// yields and tries again.
+    ///
+    /// ```
+    /// use proved_congee::keyed::OrdSharedMap;
+    ///
+    /// # fn main() -> Result<(), proved_congee::OutOfMemory> {
+    /// let guard = OrdSharedMap::<i32, char>::new()?.pin()?;
+    /// guard.extend([(-5, 'a'), (7, 'b'), (9, 'c')])?;
+    /// assert!(!guard.is_empty());
+    /// # Ok(())
+    /// # }
+    /// ```
     pub fn is_empty(&self) -> bool {
         self.guard.is_empty()
     }
 
-    /// The pairs of a range, from either end. Each page is of one moment.
+    /// Returns the pairs whose keys are within the bounds, keys ascending, from either end. The pairs are read in pages of
+    /// 4, then 16, and then 64. The pairs of a page are of one moment, and other calls come in between two pages. A key
+    /// that is present throughout is returned.
+    ///
+    /// ```
+    /// use proved_congee::keyed::OrdSharedMap;
+    ///
+    /// # fn main() -> Result<(), proved_congee::OutOfMemory> {
+    /// let guard = OrdSharedMap::<i32, char>::new()?.pin()?;
+    /// guard.extend([(-5, 'a'), (7, 'b'), (9, 'c')])?;
+    /// assert!(guard.range(-5..9).eq([(-5, 'a'), (7, 'b')]));
+    /// # Ok(())
+    /// # }
+    /// ```
+    #[doc(alias("cursor", "range_mut", "scan"))]
     pub fn range(&self, of: impl RangeBounds<K>) -> Range<'_, K, V> {
         Range::of(self.guard.range(bounds(of)))
     }
 
-    /// All pairs, from either end. Each page is of one moment.
+    /// Returns all pairs, keys ascending, from either end. The pairs are read in pages of 4, then 16, and then 64. The
+    /// pairs of a page are of one moment, and other calls come in between two pages. A key that is present throughout is
+    /// returned.
+    ///
+    /// ```
+    /// use proved_congee::keyed::OrdSharedMap;
+    ///
+    /// # fn main() -> Result<(), proved_congee::OutOfMemory> {
+    /// let guard = OrdSharedMap::<i32, char>::new()?.pin()?;
+    /// guard.extend([(-5, 'a'), (7, 'b'), (9, 'c')])?;
+    /// assert!(guard.iter().eq([(-5, 'a'), (7, 'b'), (9, 'c')]));
+    /// # Ok(())
+    /// # }
+    /// ```
+    #[doc(alias("for_each", "iter_mut"))]
     pub fn iter(&self) -> Range<'_, K, V> {
         self.range(..)
     }
 
-    /// The guard of the numbers.
+    /// Returns the guard of numbers, for calls that the typed guard lacks.
+    ///
+    /// ```
+    /// use proved_congee::keyed::OrdSharedMap;
+    ///
+    /// # fn main() -> Result<(), proved_congee::OutOfMemory> {
+    /// let guard = OrdSharedMap::<char, u32>::new()?.pin()?;
+    /// guard.as_guard().add(u64::from('a'), 1)?;
+    /// assert_eq!(guard.get('a'), Some(1));
+    /// # Ok(())
+    /// # }
+    /// ```
     pub fn as_guard(&self) -> &Guard {
         &self.guard
     }

@@ -16,12 +16,19 @@ pub trait Calls {
 
     /// The sum of the keys and values of the first hundred pairs from this key on.
     fn range(&mut self, start: u64) -> u64;
+
+    /// Adds 1 to the key's value by a closure, and returns the value before.
+    fn compute(&mut self, _key: u64) -> u64 {
+        unreachable!("it takes no closures")
+    }
 }
 
 /// A map that threads share.
 pub trait Shared: Sync {
     /// Whether it is ordered.
     const HAS_RANGES: bool = true;
+    /// Whether it changes a value by a closure.
+    const TAKES_CLOSURES: bool = false;
     /// Whether an insertion returns the value before.
     const RETURNS_BEFORE: bool = true;
     type Caller<'a>: Calls
@@ -39,6 +46,8 @@ pub struct Plan {
     keys: Vec<u64>,
     /// All of them, shuffled.
     shuffled: Vec<u64>,
+    /// The one load that is done. None for all.
+    pub only: Option<String>,
 }
 
 fn next(state: &mut u64) -> u64 {
@@ -64,7 +73,19 @@ impl Plan {
         for at in (1..shuffled.len()).rev() {
             shuffled.swap(at, (next(&mut seed) % (at as u64 + 1)) as usize);
         }
-        Plan { keys, shuffled }
+        Plan {
+            keys,
+            shuffled,
+            only: None,
+        }
+    }
+
+    /// The keys of this load: none where it isn't done.
+    fn of_load<'a>(&self, load: &str, keys: &'a [u64]) -> &'a [u64] {
+        match &self.only {
+            Some(only) if only != load => &[],
+            _ => keys,
+        }
     }
 }
 
@@ -116,51 +137,77 @@ fn value(key: u64, round: u64) -> u64 {
     key.wrapping_mul(5).wrapping_add(round) | 1 << 40
 }
 
-/// Times one call for each of these keys, each thread with a part of them. `call` is handed how many keys come before its key, too. What it returns is summed up where that is one for all maps.
-fn timed<M: Shared>(
-    load: &'static str,
-    map: &M,
+/// One call for each of these keys, and the sum of what they return. (A function of its own, so that its instructions can be counted.)
+#[inline(never)]
+fn each_key<C>(caller: &mut C, keys: &[u64], call: impl Fn(&mut C, usize, u64) -> u64) -> u64 {
+    let each = keys.iter().enumerate();
+    each.fold(0, |sum, (at, key)| sum.wrapping_add(call(caller, at, *key)))
+}
+
+/// A map, and by how many threads it is called.
+struct Run<'a, M> {
+    plan: &'a Plan,
+    map: M,
     threads: usize,
-    (keys, is_one): (&[u64], bool),
-    call: impl Fn(&mut M::Caller<'_>, usize, u64) -> u64 + Sync,
-) -> Timed {
-    let start = Barrier::new(threads);
-    let part = keys.len().div_ceil(threads).max(1);
-    let parts: Vec<Part> = thread::scope(|scope| {
-        let spawned: Vec<_> = (0..threads)
-            .map(|number| {
-                let (start, call) = (&start, &call);
-                let own = keys.chunks(part).nth(number).unwrap_or(&[]);
-                scope.spawn(move || {
-                    let (mut caller, mut sum) = (map.caller(), 0u64);
-                    start.wait();
-                    let (began, before) = (Instant::now(), processor_time());
-                    for (at, key) in own.iter().enumerate() {
-                        sum = sum.wrapping_add(call(&mut caller, at, *key));
-                    }
-                    Part {
-                        processor: processor_time() - before,
-                        ended: Instant::now(),
-                        began,
-                        sum,
-                    }
+}
+
+impl<M: Shared> Run<'_, M> {
+    /// Times one call for each of these keys, each thread with a part of them. `call` is handed how many keys come before its key,
+    /// too. What it returns is summed up where that is one for all maps.
+    fn timed(
+        &self,
+        load: &'static str,
+        (keys, is_one): (&[u64], bool),
+        call: impl Fn(&mut M::Caller<'_>, usize, u64) -> u64 + Sync,
+    ) -> Timed {
+        let keys = self.plan.of_load(load, keys);
+        let start = Barrier::new(self.threads);
+        let part = keys.len().div_ceil(self.threads).max(1);
+        let parts: Vec<Part> = thread::scope(|scope| {
+            let spawned: Vec<_> = (0..self.threads)
+                .map(|number| {
+                    let (start, call) = (&start, &call);
+                    let own = keys.chunks(part).nth(number).unwrap_or(&[]);
+                    scope.spawn(move || {
+                        let mut caller = self.map.caller();
+                        start.wait();
+                        let (began, before) = (Instant::now(), processor_time());
+                        let sum = each_key(&mut caller, own, call);
+                        Part {
+                            processor: processor_time() - before,
+                            ended: Instant::now(),
+                            began,
+                            sum,
+                        }
+                    })
                 })
-            })
-            .collect();
-        spawned
-            .into_iter()
-            .map(|it| it.join().expect("no thread panics"))
-            .collect()
-    });
-    let began = parts.iter().map(|it| it.began).min().expect("a thread");
-    let ended = parts.iter().map(|it| it.ended).max().expect("a thread");
-    let each = |nanoseconds: u128| nanoseconds as f64 / keys.len() as f64;
-    Timed {
-        load,
-        calls: keys.len(),
-        wall: each((ended - began).as_nanos()),
-        processor: each(parts.iter().map(|it| u128::from(it.processor)).sum()),
-        sum: is_one.then_some(parts.iter().fold(0, |sum, it| sum.wrapping_add(it.sum))),
+                .collect();
+            spawned
+                .into_iter()
+                .map(|it| it.join().expect("no thread panics"))
+                .collect()
+        });
+        let began = parts.iter().map(|it| it.began).min().expect("a thread");
+        let ended = parts.iter().map(|it| it.ended).max().expect("a thread");
+        let each = |nanoseconds: u128| nanoseconds as f64 / keys.len() as f64;
+        Timed {
+            load,
+            calls: keys.len(),
+            wall: each((ended - began).as_nanos()),
+            processor: each(parts.iter().map(|it| u128::from(it.processor)).sum()),
+            sum: is_one.then_some(parts.iter().fold(0, |sum, it| sum.wrapping_add(it.sum))),
+        }
+    }
+
+    /// The same calls, of which one in so many overwrites.
+    fn mixed(&self, load: &'static str, keys: &[u64], one_in: usize, round: u64) -> Timed {
+        self.timed(load, (keys, M::RETURNS_BEFORE), |it, at, key| {
+            if at % one_in == 0 {
+                it.insert(key, value(key, round))
+            } else {
+                it.get(key)
+            }
+        })
     }
 }
 
@@ -175,43 +222,33 @@ fn filled<M: Shared>(keys: &[u64]) -> M {
     map
 }
 
-/// All loads on a fresh map with seven tenths of the keys, in their order.
+/// All loads on a fresh map with seven tenths of the keys, in their order: with all keys, where new ones aren't inserted.
 pub fn take<M: Shared>(plan: &Plan, threads: usize) -> Vec<Timed> {
     let count = plan.keys.len();
     let (old, new) = plan.keys.split_at(count * 7 / 10);
-    let map: M = filled(old);
+    let has_new = !plan.of_load("new", new).is_empty();
+    let run: Run<M> = Run {
+        plan,
+        map: filled(if has_new { old } else { &plan.keys }),
+        threads,
+    };
     let half = &plan.shuffled[..count / 2];
     let few = &half[..if M::HAS_RANGES { count / 200 } else { 0 }];
+    let changed = &half[..if M::TAKES_CLOSURES { count / 2 } else { 0 }];
     let gone = &plan.shuffled[count * 7 / 10..];
     let before = M::RETURNS_BEFORE;
-    let mixed = |load, one_in, round| {
-        timed(load, &map, threads, (half, before), |it, at, key| {
-            if at % one_in == 0 {
-                it.insert(key, value(key, round))
-            } else {
-                it.get(key)
-            }
-        })
-    };
     vec![
-        timed("new", &map, threads, (new, before), |it, _, key| {
+        run.timed("new", (new, before), |it, _, key| {
             it.insert(key, value(key, 0))
         }),
-        timed("get", &map, threads, (half, true), |it, _, key| it.get(key)),
-        timed("overwrite", &map, threads, (half, before), |it, _, key| {
+        run.timed("get", (half, true), |it, _, key| it.get(key)),
+        run.timed("overwrite", (half, before), |it, _, key| {
             it.insert(key, value(key, 1))
         }),
-        mixed("tenth", 10, 2),
-        mixed("half", 2, 3),
-        timed(
-            "range",
-            &map,
-            threads,
-            (few, M::HAS_RANGES),
-            |it, _, key| it.range(key),
-        ),
-        timed("remove", &map, threads, (gone, true), |it, _, key| {
-            it.remove(key)
-        }),
+        run.timed("compute", (changed, true), |it, _, key| it.compute(key)),
+        run.mixed("tenth", half, 10, 2),
+        run.mixed("half", half, 2, 3),
+        run.timed("range", (few, true), |it, _, key| it.range(key)),
+        run.timed("remove", (gone, true), |it, _, key| it.remove(key)),
     ]
 }

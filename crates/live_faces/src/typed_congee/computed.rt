@@ -34,8 +34,9 @@ impl<K: Word, V: Word> Congee<K, V> {
         Ok(read_back(before))
     }
 
-    /// The same, which pauses where `try_add` is busy, and goes on. `OOMError` if memory was missing: then the pairs are as
-    /// they were.
+    /// Adds to the number of the key's value, modulo 2 to the 64. A new key gets the number itself. Returns the previous
+    /// value, read back from its number. Pauses where `try_add` is busy, and goes on. `OOMError` if memory was missing for a new
+    /// key: then the pairs are as they were.
     pub fn add<R: Wait>(
         &self,
         rt: &R,
@@ -82,8 +83,8 @@ impl<K: Word, V: Word> Congee<K, V> {
         Ok(read_back(found))
     }
 
-    /// The same, which pauses where `try_get_or_insert` is busy, and goes on. `OOMError` if memory was missing: then the pairs
-    /// are as they were.
+    /// Gives the key the value if it is absent. Returns the value that was present, read back from its number. Pauses where
+    /// `try_get_or_insert` is busy, and goes on. `OOMError` if memory was missing for a new key: then the pairs are as they were.
     pub fn get_or_insert<R: Wait>(
         &self,
         rt: &R,

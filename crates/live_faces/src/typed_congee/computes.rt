@@ -38,7 +38,9 @@ impl<K: Word, V: Word> Congee<K, V> {
         self.pool.compute_if_present(guard, key.into_u64(), f)
     }
 
-    /// The same, which pauses where `try_compute_if_present` is busy, and goes on.
+    /// If the key is present, calls the closure with its value's number, and stores the answer. For `None` it removes the key.
+    /// Returns both numbers, the old and the new one. Pauses where `try_compute_if_present` is busy, and goes on. The closure may
+    /// be called again, and the last call counts.
     pub fn compute_if_present<R: Wait, F: FnMut(u64) -> Option<u64>>(
         &self,
         rt: &R,
@@ -90,8 +92,9 @@ impl<K: Word, V: Word> Congee<K, V> {
         Ok(read_back(number))
     }
 
-    /// The same, which pauses where `try_compute_or_insert` is busy, and goes on. `OOMError` if memory was missing: then the
-    /// pairs are as they were.
+    /// Calls the closure with the number of the key's value, if the key is present, and stores the answer. Returns the
+    /// previous value, read back from its number. Pauses where `try_compute_or_insert` is busy, and goes on. The closure may be
+    /// called again, and the last call counts. `OOMError` if memory was missing for a new key: then the pairs are as they were.
     pub fn compute_or_insert<R: Wait, F: FnMut(Option<u64>) -> u64>(
         &self,
         rt: &R,

@@ -2,7 +2,7 @@
 //!
 //! No count is kept, since all writers would write it. The pairs are counted as a range over all keys reads them, leaf by leaf.
 //!
-//! Tested in `test_live_scans`.
+//! Tested in `test_live_faces`.
 ghost use Rattle.std.specs.Prelude.{◌≡◌, IfOk, OnErr};
 ghost use Rattle.live_scans.specs.Scans.{GaveUp, Waits};
 ghost use Rattle.live_counts.specs.Counts.{HasCounted, HasTested};
@@ -25,7 +25,8 @@ impl<K: Word, V: Word> Congee<K, V> {
         counts::count(&self.pool.map, guard)
     }
 
-    /// The same, which pauses where `try_value_count` is busy, and goes on.
+    /// How many pairs there are: 2 to the 64 at most. It is exact where nobody writes. Else each key was counted, or wasn't, as
+    /// it was at a moment of the call. Pauses where `try_value_count` is busy, and goes on.
     pub fn value_count<R: Wait>(&self, rt: &R, guard: &mut Guard) -> u128
         requires map { guard.old.book ≡ self.now }
         ensures map { guard.new.book ≡ guard.old.book }
@@ -51,7 +52,7 @@ impl<K: Word, V: Word> Congee<K, V> {
         counts::is_empty(&self.pool.map, guard)
     }
 
-    /// The same, which pauses where `try_is_empty` is busy, and goes on.
+    /// Whether there is no pair, by a look for the first one. Pauses where `try_is_empty` is busy, and goes on.
     pub fn is_empty<R: Wait>(&self, rt: &R, guard: &mut Guard) -> bool
         requires map { guard.old.book ≡ self.now }
         ensures map { guard.new.book ≡ guard.old.book }

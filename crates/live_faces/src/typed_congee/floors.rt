@@ -3,7 +3,7 @@
 //! As `ceiling` and `above`: a reader begins with an entry of its own in the history and goes downwards. Each key behind the pair
 //! has a moment after that at which it was absent.
 //!
-//! Tested in `test_live_scans`.
+//! Tested in `test_live_faces`.
 ghost use Rattle.std.specs.Prelude.{◌≡◌, ◌+◌, ◌^◌, IfOk, OnErr};
 ghost use Rattle.live_scans.specs.Scans.{GaveUp, Waits};
 ghost use Rattle.live_faces.specs.Returned.{ReturnsBefore, pair_of};
@@ -28,7 +28,7 @@ impl<K: Word, V: Word> Congee<K, V> {
         Ok(pair_back(found))
     }
 
-    /// The same, which pauses where `try_floor` is busy, and goes on.
+    /// The pair with the greatest key, by numbers, that is at most this one. Pauses where `try_floor` is busy, and goes on.
     pub fn floor<R: Wait>(&self, rt: &R, guard: &mut Guard, key: &K) -> Option<(K, V)>
         requires map { guard.old.book ≡ self.now }
         ensures map { guard.new.book ≡ guard.old.book }
@@ -57,7 +57,7 @@ impl<K: Word, V: Word> Congee<K, V> {
         Ok(pair_back(found))
     }
 
-    /// The same, which pauses where `try_below` is busy, and goes on.
+    /// The pair with the greatest key, by numbers, that is below this one. Pauses where `try_below` is busy, and goes on.
     pub fn below<R: Wait>(&self, rt: &R, guard: &mut Guard, key: &K) -> Option<(K, V)>
         requires map { guard.old.book ≡ self.now }
         ensures map { guard.new.book ≡ guard.old.book }
@@ -86,7 +86,7 @@ impl<K: Word, V: Word> Congee<K, V> {
         Ok(pair_back(found))
     }
 
-    /// The same, which pauses where `try_last` is busy, and goes on.
+    /// The pair with the greatest key, by numbers. Pauses where `try_last` is busy, and goes on.
     pub fn last<R: Wait>(&self, rt: &R, guard: &mut Guard) -> Option<(K, V)>
         requires map { guard.old.book ≡ self.now }
         ensures map { guard.new.book ≡ guard.old.book }

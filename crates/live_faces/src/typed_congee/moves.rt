@@ -3,7 +3,7 @@
 //! Each node is locked while the pairs are copied. So writers are busy then, and look-ups wait or are busy where a node is
 //! locked.
 //!
-//! Tested in `test_live_moves`.
+//! Tested in `test_live_faces`.
 ghost use Rattle.std.specs.Prelude.{◌≡◌, nat_eq, IfOk, IfErr, OnErr};
 ghost use Rattle.share_rule.specs.History.{IsHistory};
 ghost use Rattle.live_scans.specs.Scans.{GaveUp, HasWaited, Waits};
@@ -38,7 +38,8 @@ impl<K: Word, V: Word> Congee<K, V> {
         }
     }
 
-    /// The same, which pauses where `try_snapshot` is busy, and goes on. `OOMError` if there is no memory for the pairs.
+    /// All pairs of one moment, keys ascending, each read back from its numbers. Pauses where `try_snapshot` is busy, and goes
+    /// on. `OOMError` if there is no memory for the pairs. It takes 32 bytes and more a pair meanwhile.
     pub fn snapshot<R: Wait>(
         &self,
         rt: &R,

@@ -4,7 +4,7 @@
 //! pair that is given was stored at a moment of the call, keys ascend, and a key that was stored throughout is given. It is no
 //! snapshot.
 //!
-//! Tested in `test_live_scans`.
+//! Tested in `test_live_faces`.
 ghost use Rattle.std.specs.Prelude.{◌≡◌, ◌+◌, ◌≤◌, length, take, IfOk, OnErr};
 ghost use Rattle.std.specs.Option.{option_map};
 ghost use Rattle.live_scans.specs.Scans.{GaveUp, HasPage, Waits};
@@ -52,7 +52,9 @@ impl<K: Word, V: Word> Congee<K, V> {
         )
     }
 
-    /// The same, which pauses where `try_range` is busy, and goes on.
+    /// Writes pairs, by their numbers, with keys from `start` on and below `end` to the buffer, ascending, as many as there
+    /// are or as fit, and returns how many. The buffer's entries after them are unspecified. If the buffer is full, the next
+    /// page begins behind the last key. Pauses where `try_range` is busy, and goes on.
     pub fn range<R: Wait>(
         &self,
         rt: &R,
@@ -77,7 +79,9 @@ impl<K: Word, V: Word> Congee<K, V> {
         unreachable!()
     }
 
-    /// The same as `try_range`, with the pair of the key `last`.
+    /// Writes pairs, by their numbers, with keys from `start` to `last`, both included, to the buffer, ascending, as many as
+    /// there are or as fit, and returns how many. The buffer's entries after them are unspecified. If the buffer is full, the
+    /// next page begins behind the last key. `Busy` if too many writers came in between.
     pub fn try_range_inclusive(
         &self,
         guard: &mut Guard,
@@ -101,7 +105,9 @@ impl<K: Word, V: Word> Congee<K, V> {
         )
     }
 
-    /// The same, which pauses where `try_range_inclusive` is busy, and goes on.
+    /// Writes pairs, by their numbers, with keys from `start` to `last`, both included, to the buffer, ascending, as many as
+    /// there are or as fit, and returns how many. The buffer's entries after them are unspecified. If the buffer is full, the
+    /// next page begins behind the last key. Pauses where `try_range_inclusive` is busy, and goes on.
     pub fn range_inclusive<R: Wait>(
         &self,
         rt: &R,
@@ -138,7 +144,7 @@ impl<K: Word, V: Word> Congee<K, V> {
         Ok(pair_back(found))
     }
 
-    /// The same, which pauses where `try_ceiling` is busy, and goes on.
+    /// The pair with the least key, by numbers, that is at least this one. Pauses where `try_ceiling` is busy, and goes on.
     pub fn ceiling<R: Wait>(&self, rt: &R, guard: &mut Guard, key: &K) -> Option<(K, V)>
         requires map { guard.old.book ≡ self.now }
         ensures map { guard.new.book ≡ guard.old.book }
@@ -167,7 +173,7 @@ impl<K: Word, V: Word> Congee<K, V> {
         Ok(pair_back(found))
     }
 
-    /// The same, which pauses where `try_above` is busy, and goes on.
+    /// The pair with the least key, by numbers, that is above this one. Pauses where `try_above` is busy, and goes on.
     pub fn above<R: Wait>(&self, rt: &R, guard: &mut Guard, key: &K) -> Option<(K, V)>
         requires map { guard.old.book ≡ self.now }
         ensures map { guard.new.book ≡ guard.old.book }
@@ -196,7 +202,7 @@ impl<K: Word, V: Word> Congee<K, V> {
         Ok(pair_back(found))
     }
 
-    /// The same, which pauses where `try_first` is busy, and goes on.
+    /// The pair with the least key, by numbers. Pauses where `try_first` is busy, and goes on.
     pub fn first<R: Wait>(&self, rt: &R, guard: &mut Guard) -> Option<(K, V)>
         requires map { guard.old.book ≡ self.now }
         ensures map { guard.new.book ≡ guard.old.book }

@@ -32,7 +32,8 @@ impl<K: Word, V: Word> Congee<K, V> {
         Ok(read_back(number))
     }
 
-    /// The same, which pauses where `try_remove` is busy, and goes on.
+    /// Removes the key, and returns the previous value, read back from its number. Needs no memory. Pauses where `try_remove` is
+    /// busy, and goes on.
     pub fn remove<R: Wait>(&self, rt: &R, guard: &mut Guard, key: &K) -> Option<V>
         requires map { guard.old.book ≡ self.now }
         ensures map { guard.new.book ≡ guard.old.book }
@@ -75,7 +76,9 @@ impl<K: Word, V: Word> Congee<K, V> {
         }
     }
 
-    /// The same, which pauses where `try_compare_exchange` is busy, and goes on.
+    /// If the number of `old` is stored at the key, stores `new`, or removes the key for `None`, and returns `Ok` with `new`
+    /// itself. Otherwise changes nothing, and returns `Err` with the current value, read back from its number, or with `None`
+    /// if the key is absent. Needs no memory. Pauses where `try_compare_exchange` is busy, and goes on.
     pub fn compare_exchange<R: Wait>(
         &self,
         rt: &R,

@@ -16,7 +16,7 @@ impl<K: Word, V: Word> Congee<K, V> {
     /// Adds to the number of the key's value, modulo 2 to the 64. A new key gets the number itself. Returns the previous
     /// value, read back from its number. `OutOfMemory` comes only for a new key.
     pub fn try_add(&self, guard: &mut Guard, key: K, number: u64) -> Result<Option<V>, Refusal>
-        requires map { guard.old.table ≡ self.now }
+        requires map { guard.old.table ≡ self.now.table }
         ensures map { guard.new.table ≡ guard.old.table }
         ensures made { IfOk result (λ before. ReturnsComputed V.of_number guard.old
             (K.number key) (λ current. sum_with current number) before guard.new) }
@@ -37,7 +37,7 @@ impl<K: Word, V: Word> Congee<K, V> {
         key: K,
         number: u64,
     ) -> Result<Option<V>, OOMError>
-        requires map { guard.old.table ≡ self.now }
+        requires map { guard.old.table ≡ self.now.table }
         ensures map { guard.new.table ≡ guard.old.table }
         ensures made { IfOk result (λ before. ReturnsComputed V.of_number guard.old
             (K.number key) (λ current. sum_with current number) before guard.new) }
@@ -54,7 +54,7 @@ impl<K: Word, V: Word> Congee<K, V> {
         key: K,
         value: V,
     ) -> Result<Option<V>, Refusal>
-        requires map { guard.old.table ≡ self.now }
+        requires map { guard.old.table ≡ self.now.table }
         ensures map { guard.new.table ≡ guard.old.table }
         ensures made { IfOk result (λ found. ReturnsComputed V.of_number guard.old
             (K.number key) (λ current. unwrap_or current (V.number value)) found guard.new) }
@@ -75,7 +75,7 @@ impl<K: Word, V: Word> Congee<K, V> {
         key: K,
         value: V,
     ) -> Result<Option<V>, OOMError>
-        requires map { guard.old.table ≡ self.now }
+        requires map { guard.old.table ≡ self.now.table }
         ensures map { guard.new.table ≡ guard.old.table }
         ensures made { IfOk result (λ found. ReturnsComputed V.of_number guard.old
             (K.number key) (λ current. unwrap_or current (V.number value)) found guard.new) }

@@ -27,7 +27,7 @@ fn pair_read_back<K: Word, V: Word>(found: Option<(u64, u64)>) -> Option<(K, V)>
 impl<K: Word, V: Word> Congee<K, V> {
     // The pair there, each read back from its number.
     fn try_nearest(&self, guard: &mut Guard, near: Near) -> Result<Option<(K, V)>, Busy>
-        requires map { guard.old.table ≡ self.now }
+        requires map { guard.old.table ≡ self.now.table }
         ensures map { guard.new.table ≡ guard.old.table }
         ensures made { IfOk result (λ pair.
             ReturnsPair K.of_number V.of_number guard.old (near_of near) pair guard.new) }
@@ -41,7 +41,7 @@ impl<K: Word, V: Word> Congee<K, V> {
 
     /// The pair with the least key, each read back from its number.
     pub fn try_first(&self, guard: &mut Guard) -> Result<Option<(K, V)>, Busy>
-        requires map { guard.old.table ≡ self.now }
+        requires map { guard.old.table ≡ self.now.table }
         ensures map { guard.new.table ≡ guard.old.table }
         ensures made { IfOk result (λ pair. ReturnsPair K.of_number V.of_number guard.old
             first_end pair guard.new) }
@@ -52,7 +52,7 @@ impl<K: Word, V: Word> Congee<K, V> {
 
     /// The same, which pauses where `try_first` is busy, and goes on.
     pub fn first<R: Wait>(&self, rt: &R, guard: &mut Guard) -> Option<(K, V)>
-        requires map { guard.old.table ≡ self.now }
+        requires map { guard.old.table ≡ self.now.table }
         ensures map { guard.new.table ≡ guard.old.table }
         ensures made { ReturnsPair K.of_number V.of_number guard.old first_end
             result guard.new }
@@ -62,7 +62,7 @@ impl<K: Word, V: Word> Congee<K, V> {
 
     /// The pair with the greatest key, each read back from its number.
     pub fn try_last(&self, guard: &mut Guard) -> Result<Option<(K, V)>, Busy>
-        requires map { guard.old.table ≡ self.now }
+        requires map { guard.old.table ≡ self.now.table }
         ensures map { guard.new.table ≡ guard.old.table }
         ensures made { IfOk result (λ pair. ReturnsPair K.of_number V.of_number guard.old
             last_end pair guard.new) }
@@ -73,7 +73,7 @@ impl<K: Word, V: Word> Congee<K, V> {
 
     /// The same, which pauses where `try_last` is busy, and goes on.
     pub fn last<R: Wait>(&self, rt: &R, guard: &mut Guard) -> Option<(K, V)>
-        requires map { guard.old.table ≡ self.now }
+        requires map { guard.old.table ≡ self.now.table }
         ensures map { guard.new.table ≡ guard.old.table }
         ensures made { ReturnsPair K.of_number V.of_number guard.old last_end
             result guard.new }
@@ -83,7 +83,7 @@ impl<K: Word, V: Word> Congee<K, V> {
 
     /// The pair with the greatest key that is at most this one, each read back from its number.
     pub fn try_floor(&self, guard: &mut Guard, key: &K) -> Result<Option<(K, V)>, Busy>
-        requires map { guard.old.table ≡ self.now }
+        requires map { guard.old.table ≡ self.now.table }
         ensures map { guard.new.table ≡ guard.old.table }
         ensures made { IfOk result (λ pair. ReturnsPair K.of_number V.of_number guard.old
             (floor_of (K.number key.now)) pair guard.new) }
@@ -94,7 +94,7 @@ impl<K: Word, V: Word> Congee<K, V> {
 
     /// The same, which pauses where `try_floor` is busy, and goes on.
     pub fn floor<R: Wait>(&self, rt: &R, guard: &mut Guard, key: &K) -> Option<(K, V)>
-        requires map { guard.old.table ≡ self.now }
+        requires map { guard.old.table ≡ self.now.table }
         ensures map { guard.new.table ≡ guard.old.table }
         ensures made { ReturnsPair K.of_number V.of_number guard.old (floor_of (K.number key.now))
             result guard.new }
@@ -104,7 +104,7 @@ impl<K: Word, V: Word> Congee<K, V> {
 
     /// The pair with the greatest key below this one, each read back from its number.
     pub fn try_below(&self, guard: &mut Guard, key: &K) -> Result<Option<(K, V)>, Busy>
-        requires map { guard.old.table ≡ self.now }
+        requires map { guard.old.table ≡ self.now.table }
         ensures map { guard.new.table ≡ guard.old.table }
         ensures made { IfOk result (λ pair. ReturnsPair K.of_number V.of_number guard.old
             (below_of (K.number key.now)) pair guard.new) }
@@ -115,7 +115,7 @@ impl<K: Word, V: Word> Congee<K, V> {
 
     /// The same, which pauses where `try_below` is busy, and goes on.
     pub fn below<R: Wait>(&self, rt: &R, guard: &mut Guard, key: &K) -> Option<(K, V)>
-        requires map { guard.old.table ≡ self.now }
+        requires map { guard.old.table ≡ self.now.table }
         ensures map { guard.new.table ≡ guard.old.table }
         ensures made { ReturnsPair K.of_number V.of_number guard.old (below_of (K.number key.now))
             result guard.new }
@@ -125,7 +125,7 @@ impl<K: Word, V: Word> Congee<K, V> {
 
     /// The pair with the least key that is at least this one, each read back from its number.
     pub fn try_ceiling(&self, guard: &mut Guard, key: &K) -> Result<Option<(K, V)>, Busy>
-        requires map { guard.old.table ≡ self.now }
+        requires map { guard.old.table ≡ self.now.table }
         ensures map { guard.new.table ≡ guard.old.table }
         ensures made { IfOk result (λ pair. ReturnsPair K.of_number V.of_number guard.old
             (ceiling_of (K.number key.now)) pair guard.new) }
@@ -136,7 +136,7 @@ impl<K: Word, V: Word> Congee<K, V> {
 
     /// The same, which pauses where `try_ceiling` is busy, and goes on.
     pub fn ceiling<R: Wait>(&self, rt: &R, guard: &mut Guard, key: &K) -> Option<(K, V)>
-        requires map { guard.old.table ≡ self.now }
+        requires map { guard.old.table ≡ self.now.table }
         ensures map { guard.new.table ≡ guard.old.table }
         ensures made { ReturnsPair K.of_number V.of_number guard.old (ceiling_of (K.number key.now))
             result guard.new }
@@ -146,7 +146,7 @@ impl<K: Word, V: Word> Congee<K, V> {
 
     /// The pair with the least key above this one, each read back from its number.
     pub fn try_above(&self, guard: &mut Guard, key: &K) -> Result<Option<(K, V)>, Busy>
-        requires map { guard.old.table ≡ self.now }
+        requires map { guard.old.table ≡ self.now.table }
         ensures map { guard.new.table ≡ guard.old.table }
         ensures made { IfOk result (λ pair. ReturnsPair K.of_number V.of_number guard.old
             (above_of (K.number key.now)) pair guard.new) }
@@ -157,7 +157,7 @@ impl<K: Word, V: Word> Congee<K, V> {
 
     /// The same, which pauses where `try_above` is busy, and goes on.
     pub fn above<R: Wait>(&self, rt: &R, guard: &mut Guard, key: &K) -> Option<(K, V)>
-        requires map { guard.old.table ≡ self.now }
+        requires map { guard.old.table ≡ self.now.table }
         ensures map { guard.new.table ≡ guard.old.table }
         ensures made { ReturnsPair K.of_number V.of_number guard.old (above_of (K.number key.now))
             result guard.new }
@@ -167,7 +167,7 @@ impl<K: Word, V: Word> Congee<K, V> {
 
     /// Removes the pair with the least key, and returns it, each read back from its number.
     pub fn try_pop_first(&self, guard: &mut Guard) -> Result<Option<(K, V)>, Busy>
-        requires map { guard.old.table ≡ self.now }
+        requires map { guard.old.table ≡ self.now.table }
         ensures map { guard.new.table ≡ guard.old.table }
         ensures made { IfOk result (λ pair. ReturnsPopped K.of_number V.of_number guard.old
             first_end pair guard.new) }
@@ -181,7 +181,7 @@ impl<K: Word, V: Word> Congee<K, V> {
 
     /// The same, which pauses where `try_pop_first` is busy, and goes on.
     pub fn pop_first<R: Wait>(&self, rt: &R, guard: &mut Guard) -> Option<(K, V)>
-        requires map { guard.old.table ≡ self.now }
+        requires map { guard.old.table ≡ self.now.table }
         ensures map { guard.new.table ≡ guard.old.table }
         ensures made { ReturnsPopped K.of_number V.of_number guard.old first_end result guard.new }
     {
@@ -190,7 +190,7 @@ impl<K: Word, V: Word> Congee<K, V> {
 
     /// Removes the pair with the greatest key, and returns it, each read back from its number.
     pub fn try_pop_last(&self, guard: &mut Guard) -> Result<Option<(K, V)>, Busy>
-        requires map { guard.old.table ≡ self.now }
+        requires map { guard.old.table ≡ self.now.table }
         ensures map { guard.new.table ≡ guard.old.table }
         ensures made { IfOk result (λ pair. ReturnsPopped K.of_number V.of_number guard.old
             last_end pair guard.new) }
@@ -204,7 +204,7 @@ impl<K: Word, V: Word> Congee<K, V> {
 
     /// The same, which pauses where `try_pop_last` is busy, and goes on.
     pub fn pop_last<R: Wait>(&self, rt: &R, guard: &mut Guard) -> Option<(K, V)>
-        requires map { guard.old.table ≡ self.now }
+        requires map { guard.old.table ≡ self.now.table }
         ensures map { guard.new.table ≡ guard.old.table }
         ensures made { ReturnsPopped K.of_number V.of_number guard.old last_end result guard.new }
     {

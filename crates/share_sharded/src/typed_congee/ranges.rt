@@ -21,7 +21,7 @@ impl<K: Word, V: Word> Congee<K, V> {
         end: &K,
         buffer: &mut [E],
     ) -> Result<usize, Busy>
-        requires map { guard.old.table ≡ self.now }
+        requires map { guard.old.table ≡ self.now.table }
         ensures map { guard.new.table ≡ guard.old.table }
         ensures made { IfOk result (λ written. ListsFirst E.entry guard.old (K.number start.now)
             (K.number end.now) buffer.old written buffer.new guard.new) }
@@ -42,7 +42,7 @@ impl<K: Word, V: Word> Congee<K, V> {
         end: &K,
         buffer: &mut [E],
     ) -> usize
-        requires map { guard.old.table ≡ self.now }
+        requires map { guard.old.table ≡ self.now.table }
         ensures map { guard.new.table ≡ guard.old.table }
         ensures made { ListsFirst E.entry guard.old (K.number start.now)
             (K.number end.now) buffer.old result buffer.new guard.new }
@@ -58,7 +58,7 @@ impl<K: Word, V: Word> Congee<K, V> {
         last: &K,
         buffer: &mut [E],
     ) -> Result<usize, Busy>
-        requires map { guard.old.table ≡ self.now }
+        requires map { guard.old.table ≡ self.now.table }
         ensures map { guard.new.table ≡ guard.old.table }
         ensures made { IfOk result (λ written. ListsFirst E.entry guard.old (K.number start.now)
             (K.number last.now + 1) buffer.old written buffer.new guard.new) }
@@ -79,7 +79,7 @@ impl<K: Word, V: Word> Congee<K, V> {
         last: &K,
         buffer: &mut [E],
     ) -> usize
-        requires map { guard.old.table ≡ self.now }
+        requires map { guard.old.table ≡ self.now.table }
         ensures map { guard.new.table ≡ guard.old.table }
         ensures made { ListsFirst E.entry guard.old (K.number start.now)
             (K.number last.now + 1) buffer.old result buffer.new guard.new }
@@ -96,7 +96,7 @@ impl<K: Word, V: Word> Congee<K, V> {
         last: &K,
         buffer: &mut [E],
     ) -> Result<usize, Busy>
-        requires map { guard.old.table ≡ self.now }
+        requires map { guard.old.table ≡ self.now.table }
         ensures map { guard.new.table ≡ guard.old.table }
         ensures made { IfOk result (λ written. ListsLast E.entry guard.old (K.number start.now)
             (K.number last.now + 1) buffer.old written buffer.new guard.new) }
@@ -117,7 +117,7 @@ impl<K: Word, V: Word> Congee<K, V> {
         last: &K,
         buffer: &mut [E],
     ) -> usize
-        requires map { guard.old.table ≡ self.now }
+        requires map { guard.old.table ≡ self.now.table }
         ensures map { guard.new.table ≡ guard.old.table }
         ensures made { ListsLast E.entry guard.old (K.number start.now)
             (K.number last.now + 1) buffer.old result buffer.new guard.new }

@@ -1,10 +1,10 @@
-//! The calls on the whole map: its counts, what it is charged, and its removal.
+//! The calls on the whole map: its counts, its limit and what it is charged, and its removal.
 //!
 //! Tested in `test_share_sharded`.
 
-ghost use Rattle.std.specs.Prelude.{◌≡◌, ℕ, IfOk, OnErr, OnOk};
+ghost use Rattle.std.specs.Prelude.{◌≡◌, ◌≤◌, ◌*◌, ℕ, IfOk, OnErr, OnOk};
 ghost use Rattle.share_rule.specs.Known.{MadeCall, MadeCalls};
-ghost use Rattle.share_sharded.specs.Returned.{ReturnsCharged};
+ghost use Rattle.share_calls.specs.Charged.{IsCharged};
 ghost use Rattle.share_works.specs.Made.{clearing, returned};
 ghost use Rattle.spec_map.specs.Call.{count, counted, is_empty as is_empty_call, tested};
 ghost use Rattle.spec_map.specs.Map.{Pairs};
@@ -18,7 +18,7 @@ use std::sync::Wait;
 impl<K: Word, V: Word> Congee<K, V> {
     /// How many pairs there are: 2 to the 64 at most. Takes constant time.
     pub fn try_value_count(&self, guard: &mut Guard) -> Result<u128, Busy>
-        requires map { guard.old.table ≡ self.now }
+        requires map { guard.old.table ≡ self.now.table }
         ensures map { guard.new.table ≡ guard.old.table }
         ensures made { IfOk result (λ number. MadeCall same_number guard.old
             (returned count (counted number)) guard.new) }
@@ -32,7 +32,7 @@ impl<K: Word, V: Word> Congee<K, V> {
 
     /// The same, which pauses where `try_value_count` is busy, and goes on.
     pub fn value_count<R: Wait>(&self, rt: &R, guard: &mut Guard) -> u128
-        requires map { guard.old.table ≡ self.now }
+        requires map { guard.old.table ≡ self.now.table }
         ensures map { guard.new.table ≡ guard.old.table }
         ensures made { MadeCall same_number guard.old (returned count (counted result)) guard.new }
     {
@@ -41,7 +41,7 @@ impl<K: Word, V: Word> Congee<K, V> {
 
     /// Whether there is no pair.
     pub fn try_is_empty(&self, guard: &mut Guard) -> Result<bool, Busy>
-        requires map { guard.old.table ≡ self.now }
+        requires map { guard.old.table ≡ self.now.table }
         ensures map { guard.new.table ≡ guard.old.table }
         ensures made { IfOk result (λ empty. MadeCall same_number guard.old
             (returned is_empty_call (tested empty)) guard.new) }
@@ -55,7 +55,7 @@ impl<K: Word, V: Word> Congee<K, V> {
 
     /// The same, which pauses where `try_is_empty` is busy, and goes on.
     pub fn is_empty<R: Wait>(&self, rt: &R, guard: &mut Guard) -> bool
-        requires map { guard.old.table ≡ self.now }
+        requires map { guard.old.table ≡ self.now.table }
         ensures map { guard.new.table ≡ guard.old.table }
         ensures made { MadeCall same_number guard.old
             (returned is_empty_call (tested result)) guard.new }
@@ -63,15 +63,22 @@ impl<K: Word, V: Word> Congee<K, V> {
         made!(rt, self.try_is_empty(guard))
     }
 
-    /// The sum in bytes of the stated sizes of the map's nodes, which its limit is charged for. It saturates at `u128::MAX`.
-    /// Takes constant time.
+    /// The sum of the shards' limits in bytes. The map is charged no more. Takes constant time.
+    pub fn limit(&self) -> u64
+        ensures { result ≡ self.now.table.slots * self.now.limit }
+    {
+        self.numbers.limit()
+    }
+
+    /// The sum in bytes of the stated sizes of the map's nodes, which is within its limit. Takes constant time.
     pub fn try_charged(&self, guard: &mut Guard) -> Result<u128, Busy>
-        requires map { guard.old.table ≡ self.now }
+        requires map { guard.old.table ≡ self.now.table }
         ensures map { guard.new.table ≡ guard.old.table }
-        ensures made { IfOk result (λ bytes. ReturnsCharged guard.old bytes guard.new) }
+        ensures made { IfOk result (λ bytes. IsCharged guard.old bytes guard.new) }
+        ensures within { IfOk result (λ bytes. bytes ≤ self.now.table.slots * self.now.limit) }
         ensures busy { OnErr result (guard.new ≡ guard.old) }
     {
-        match guard.charged() {
+        match self.numbers.charged(guard) {
             Ok(answer) => Ok(answer),
             Err(_) => Err(Busy),
         }
@@ -79,16 +86,17 @@ impl<K: Word, V: Word> Congee<K, V> {
 
     /// The same, which pauses where `try_charged` is busy, and goes on.
     pub fn charged<R: Wait>(&self, rt: &R, guard: &mut Guard) -> u128
-        requires map { guard.old.table ≡ self.now }
+        requires map { guard.old.table ≡ self.now.table }
         ensures map { guard.new.table ≡ guard.old.table }
-        ensures made { ReturnsCharged guard.old result guard.new }
+        ensures made { IsCharged guard.old result guard.new }
+        ensures within { result ≤ self.now.table.slots * self.now.limit }
     {
         made!(rt, self.try_charged(guard))
     }
 
     /// Removes all pairs. Of the nodes each shard's root stays.
     pub fn try_clear(&self, guard: &mut Guard) -> Result<(), Busy>
-        requires map { guard.old.table ≡ self.now }
+        requires map { guard.old.table ≡ self.now.table }
         ensures map { guard.new.table ≡ guard.old.table }
         ensures made { OnOk result ((pairs : Pairs ℕ)
             × MadeCalls same_number guard.old (clearing pairs) guard.new) }
@@ -102,7 +110,7 @@ impl<K: Word, V: Word> Congee<K, V> {
 
     /// The same, which pauses where `try_clear` is busy, and goes on.
     pub fn clear<R: Wait>(&self, rt: &R, guard: &mut Guard)
-        requires map { guard.old.table ≡ self.now }
+        requires map { guard.old.table ≡ self.now.table }
         ensures map { guard.new.table ≡ guard.old.table }
         ensures made { (pairs : Pairs ℕ)
             × MadeCalls same_number guard.old (clearing pairs) guard.new }

@@ -6,11 +6,11 @@ use Rattle.congee_live_c.proofs.pair_before.congee_c_live_below.Goals as goal
 pub returns-clause-present : goal.returns-clause-present
 returns-clause-present c = λ present.
     let is : c.answer_pair.result ≡ pos 1 = first_of (search rules, grind (arith, common_steps)) in
-    let all : IfOk c.below.result (λ found. HasBefore c.args.handle.now.held.guard c.args.key found c.below.new.self) = first_of (search rules, grind (arith, common_steps)) in
-    subst (λ z. IfOk z (λ found. HasBefore c.args.handle.now.held.guard c.args.key found c.below.new.self)) (c.answer_pair.ensures.present is) all
+    let all : IfOk c.below.result (λ found. HasBefore c.args.handle.now.held.guard c.args.key found c.below.new.guard) = first_of (search rules, grind (arith, common_steps)) in
+    subst (λ z. IfOk z (λ found. HasBefore c.args.handle.now.held.guard c.args.key found c.below.new.guard)) (c.answer_pair.ensures.present is) all
 
 pub returns-clause-absent : goal.returns-clause-absent
 returns-clause-absent c = λ absent.
     let is : c.answer_pair.result ≡ pos 0 = first_of (search rules, grind (arith, common_steps)) in
-    let all : IfOk c.below.result (λ found. HasBefore c.args.handle.now.held.guard c.args.key found c.below.new.self) = first_of (search rules, grind (arith, common_steps)) in
-    subst (λ z. IfOk z (λ found. HasBefore c.args.handle.now.held.guard c.args.key found c.below.new.self)) (c.answer_pair.ensures.absent is) all
+    let all : IfOk c.below.result (λ found. HasBefore c.args.handle.now.held.guard c.args.key found c.below.new.guard) = first_of (search rules, grind (arith, common_steps)) in
+    subst (λ z. IfOk z (λ found. HasBefore c.args.handle.now.held.guard c.args.key found c.below.new.guard)) (c.answer_pair.ensures.absent is) all

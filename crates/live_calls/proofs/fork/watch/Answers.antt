@@ -5,428 +5,183 @@ use Rattle.spec_map.specs.Map.{lookup}
 use Rattle.word_book.specs.Book.{reads, none_joined}
 use Rattle.live_nodes.specs.Plays.{Checks}
 use Rattle.live_nodes.specs.Calls.{MayCheck}
-use Rattle.live_nodes.specs.Seats.{Agree}
+use Rattle.live_nodes.specs.Seats.{Agree, SeatView}
 use Rattle.live_rows.specs.Rows.{AreOf, last_saw}
 use Rattle.live_encodes.specs.Encodes.{words_of, IsBelow, IsWord, Encodes}
-use Rattle.live_law.specs.Levels.{place_at}
+use Rattle.live_law.specs.Levels.{digit, place_at}
 use Rattle.live_law.specs.Views.{View}
 use Rattle.live_law.specs.Tree.{IsMap, LearnsBelow}
 use Rattle.live_calls.specs.Forks.{first_number}
 use Rattle.live_calls.specs.Sees.{Sees}
+use Rattle.live_calls.specs.Ways.{Sights, HasOpened, Keeps}
 use Rattle.live_cells.specs.Head.{IsHead}
 use Rattle.live_calls.specs.declared.sight.Sight.TheVariants as sights
 use Rattle.live_calls.proofs.Finds.{keeps_then}
 use Rattle.live_calls.proofs.Views.{first_word, may_read_open, open_long, open_read, reading_on_keeps}
 use Rattle.live_calls.proofs.Sights.{sights_kept}
 use Rattle.live_calls.proofs.Forks.{may_watch, watch_missed, watch_keeps, watch_forks}
+use Rattle.live_calls.proofs.fork.watch.Given.{Over}
 use Rattle.live_calls.proofs.fork.watch.Goals as goal
+use Rattle.live_calls.proofs.fork.watch.Goals.{After-find, In-Some-open, After-index-other-0, After-check}
+
+abbrev Seen : Type 0
+Seen = SeatView View
+
+-- THE NODE ABOVE was read
+module _ (g : Over) (c : After-find g) where
+  read_first : Keeps c.args.pass.now.view c.find.new.seat.view × (c.find.new.seat.view.client ≡ c.args.pass.now.view.client)
+  read_first =
+      let o = c.requires.open in let v = c.args.pass.now.view in let w = c.find.new.seat.view in
+      reading_on_keeps v w o.opened.before o.names.spot.number c.args.here.taken (last_saw w.reads) (open_read v c.args.pass.now.book c.args.here.words.now c.args.here.taken o.names.spot o.names.placed o.opened w (ap (λ s. s.view) c.find.ensures.seat.others))
+
+  abbrev sighted : Sights c.find.new.seat.view c.args.below
+  sighted = sights_kept c.args.pass.now.view c.find.new.seat.view read_first.0 c.args.below c.requires.below
+
+-- THE NODE BELOW is open
+module _ (g : Over) (c : In-Some-open g) where
+  abbrev found : After-find g
+  found = (goal.at.In-Some-open g c).After-find
+
+  abbrev n : Sights c.find.new.seat.view c.args.below
+  n = sighted g found
+
+  below_open : HasOpened c.open.new.pass.view c.open.new.pass.book c.in-Some-open.other.words.now c.in-Some-open.other.taken n.spot
+  below_open = c.in-Some-open.ensures.opened.1 n
+
+  keeps_open : Keeps c.args.pass.now.view c.open.new.pass.view
+  keeps_open = keeps_then c.args.pass.now.view c.find.new.seat.view c.open.new.pass.view (read_first g found).0 c.open.ensures.told.2
+
+  seen_open : c.open.new.pass.view.client.seen ≡ c.args.pass.now.view.client.seen
+  seen_open = ap (λ (z : View). z.seen) (c.open.ensures.told.3 ∙ (read_first g found).1)
+
+-- its head was read
+module _ (g : Over) (c : After-index-other-0 g) where
+  abbrev opened : In-Some-open g
+  opened = (goal.at.After-index-other-0 g c).In-Some-open
+
+  abbrev first_key : ℕ
+  first_key = (get_or c.in-Some-open.other.words.now 0 c.index-other-0.result).key
+
+  at_key : (place_at (n g opened).spot).key ≡ first_key
+  at_key = (first_word (place_at (n g opened).spot) c.open.new.pass.book c.in-Some-open.other.words.now (below_open g opened).are (get_or c.in-Some-open.other.words.now 0 c.index-other-0.result) c.index-other-0.result refl).0
+
+  -- what was found under the key's byte
+  finds : (content : List ℕ) (m : TableNode ℕ) → Agree content (last_saw c.find.new.seat.view.reads) → Encodes content m → m.form ≡ c.requires.open.names.spot.shape.form → IsBelow (lookup m.children (digit c.args.height c.args.key)) (Some c.in-Some.word)
+  finds content m agrees encodes formed =
+      let form = c.form_below-form.ensures c.requires.open.names.spot.shape.key c.requires.open.names.spot.shape.form c.requires.open.names.named in
+      let is : c.find.result ≡ Some c.in-Some.word = c.in-Some.is in
+      subst (λ (z : ℕ × Option ℕ). IsBelow (lookup m.children z.0) z.1) (λ i. (c.byte_at-byte.ensures i, is i)) (c.find.ensures.is content m agrees encodes (formed ∙ sym form))
+
+  is_child : (s : ℕ) → IsWord c.in-Some.word (Node s) → s ≡ c.args.below
+  is_child s e = sym (c.slot_below.ensures s e) ∙ c.if-slot_below-below.false
+
+  may : (id : ℕ) → MayCheck c.word-head.new.seat.view first_key IsMap id (LearnsBelow c.requires.open.names.spot.number (Some c.args.here.taken)) c.in-Some-open.other.taken
+  may id =
+      let o = c.requires.open in let v = c.args.pass.now.view in let free = c.in-Some-open.ensures.opened.0 in let free_above = o.free in
+      may_watch v c.args.pass.now.book c.args.here.words.now c.args.here.taken c.args.name c.args.key c.args.height o c.requires.height.0 c.find.new.seat.view (ap (λ s. s.view) c.find.ensures.seat.others) c.find.ensures.kept c.in-Some.word finds
+      c.args.below (n g opened) is_child c.if-below-name.false c.open.new.pass.view c.open.new.pass.book c.in-Some-open.other.words.now c.in-Some-open.other.taken c.open.ensures.told.2 c.open.ensures.told.3 (below_open g opened) (c.in-Some-open.ensures.taken (n g opened))
+      c.word-head.new.seat.view (ap (λ s. s.view) c.word-head.ensures.seat.others) first_key at_key id (c.in-Some-open.other.taken / 4) (c.args.here.taken / 4) (omega (arith, free)) (omega (arith, free_above))
+
+-- it was checked
+module _ (g : Over) (c : After-check g) where
+  abbrev head_of : After-index-other-0 g
+  head_of = (goal.at.After-check g c).After-index-other-0
+
+  told : Checks (LearnsBelow c.requires.open.names.spot.number (Some c.args.here.taken)) (reads (first_key g head_of)) c.word-head.new.seat.view c.check.ensures.told.0 none_joined c.check.new.seat.view
+  told = subst (λ (z : ℕ × Option ℕ). Checks (LearnsBelow z.0 z.1) (reads (first_key g head_of)) c.word-head.new.seat.view c.check.ensures.told.0 none_joined c.check.new.seat.view) (λ i. ((c.requires.above.0 ∙ ap first_number c.requires.open.opened.reads) i, c.requires.above.1 i)) c.check.ensures.told.2
+
+  book_then : c.check.new.seat.book ≡ c.args.pass.now.book
+  book_then = c.check.ensures.seat.0 ∙ (ap (λ s. s.book) c.word-head.ensures.seat.others ∙ (c.open.ensures.told.0 ∙ ap (λ s. s.book) c.find.ensures.seat.others))
+
+  id_then : c.check.new.seat.id ≡ c.args.pass.now.id
+  id_then = c.check.ensures.seat.1 ∙ (ap (λ s. s.id) c.word-head.ensures.seat.others ∙ (c.open.ensures.told.1 ∙ ap (λ s. s.id) c.find.ensures.seat.others))
+
+  kept : c.check.ensures.told.0 ≡ c.in-Some-open.other.taken → Keeps c.args.pass.now.view c.check.new.seat.view × (c.check.new.seat.view.client.seen ≡ c.args.pass.now.view.client.seen)
+  kept hit =
+      let o = c.requires.open in let v = c.args.pass.now.view in let h = head_of in let op = opened g h in
+      let k = watch_keeps v c.args.pass.now.book c.args.here.words.now c.args.here.taken c.args.name c.args.key c.args.height o c.requires.height.0 c.find.new.seat.view (ap (λ s. s.view) c.find.ensures.seat.others) c.find.ensures.kept c.in-Some.word (finds g h)
+      c.args.below (n g op) (is_child g h) c.if-below-name.false c.open.new.pass.view c.open.new.pass.book c.in-Some-open.other.words.now c.in-Some-open.other.taken c.open.ensures.told.2 c.open.ensures.told.3 (below_open g op) (c.in-Some-open.ensures.taken (n g op))
+      c.word-head.new.seat.view (ap (λ s. s.view) c.word-head.ensures.seat.others) (first_key g h) (at_key g h) c.check.new.seat.view c.check.ensures.told.0 told hit in
+      (keeps_then v c.open.new.pass.view c.check.new.seat.view (keeps_open g op) k.0, k.1 ∙ seen_open g op)
 
 pub find-requires : goal.find-requires
 find-requires g c =
-    let v = c.args.pass.now.view in
-    let b = c.args.pass.now.book in
-    let words = c.args.here.words.now in
-    let t = c.args.here.taken in
-    let name = c.args.name in
-    let key = c.args.key in
-    let height = c.args.height in
     let o = c.requires.open in
     let spot = o.names.spot in
     let l = o.opened.are.0 in
     let e = ap words_of (c.form_below-form.ensures spot.shape.key spot.shape.form o.names.named) in
-    record { cells = (may_read_open v b words t spot o.names.placed o.opened, omega (arith, l, e)) }
+    record { cells = (may_read_open c.args.pass.now.view c.args.pass.now.book c.args.here.words.now c.args.here.taken spot o.names.placed o.opened, omega (arith, l, e)) }
 
 pub returns-in_default-clause-told : goal.returns-in_default-clause-told
 returns-in_default-clause-told g c =
-    let v = c.args.pass.now.view in
-    let b = c.args.pass.now.book in
-    let words = c.args.here.words.now in
-    let t = c.args.here.taken in
-    let name = c.args.name in
-    let key = c.args.key in
-    let height = c.args.height in
-    let o = c.requires.open in
-    let v₁ = c.find.new.seat.view in
-    let r₁ = c.find.ensures.seat.others in
-    let rest = ap (λ s. s.view) r₁ in
-    let k₁ = reading_on_keeps v v₁ o.opened.before o.names.spot.number t (last_saw v₁.reads) (open_read v b words t o.names.spot o.names.placed o.opened v₁ rest) in
-    let book₁ = ap (λ s. s.book) r₁ in
-    let id₁ = ap (λ s. s.id) r₁ in
-    (book₁, id₁, k₁.0, ap (λ (z : View). z.seen) k₁.1)
+    let r = c.find.ensures.seat.others in let k = read_first g (goal.at.returns-in_default-clause-told g c).After-find in
+    (ap (λ s. s.book) r, ap (λ s. s.id) r, k.0, ap (λ (z : View). z.seen) k.1)
 
 pub returns-then-slot_below-below-clause-told : goal.returns-then-slot_below-below-clause-told
 returns-then-slot_below-below-clause-told g c =
-    let v = c.args.pass.now.view in
-    let b = c.args.pass.now.book in
-    let words = c.args.here.words.now in
-    let t = c.args.here.taken in
-    let name = c.args.name in
-    let key = c.args.key in
-    let height = c.args.height in
-    let o = c.requires.open in
-    let v₁ = c.find.new.seat.view in
-    let r₁ = c.find.ensures.seat.others in
-    let rest = ap (λ s. s.view) r₁ in
-    let k₁ = reading_on_keeps v v₁ o.opened.before o.names.spot.number t (last_saw v₁.reads) (open_read v b words t o.names.spot o.names.placed o.opened v₁ rest) in
-    let book₁ = ap (λ s. s.book) r₁ in
-    let id₁ = ap (λ s. s.id) r₁ in
-    (book₁, id₁, k₁.0, ap (λ (z : View). z.seen) k₁.1)
+    let r = c.find.ensures.seat.others in let k = read_first g (goal.at.returns-then-slot_below-below-clause-told g c).After-find in
+    (ap (λ s. s.book) r, ap (λ s. s.id) r, k.0, ap (λ (z : View). z.seen) k.1)
 
 pub returns-then-below-name-clause-told : goal.returns-then-below-name-clause-told
 returns-then-below-name-clause-told g c =
-    let v = c.args.pass.now.view in
-    let b = c.args.pass.now.book in
-    let words = c.args.here.words.now in
-    let t = c.args.here.taken in
-    let name = c.args.name in
-    let key = c.args.key in
-    let height = c.args.height in
-    let o = c.requires.open in
-    let v₁ = c.find.new.seat.view in
-    let r₁ = c.find.ensures.seat.others in
-    let rest = ap (λ s. s.view) r₁ in
-    let k₁ = reading_on_keeps v v₁ o.opened.before o.names.spot.number t (last_saw v₁.reads) (open_read v b words t o.names.spot o.names.placed o.opened v₁ rest) in
-    let book₁ = ap (λ s. s.book) r₁ in
-    let id₁ = ap (λ s. s.id) r₁ in
-    (book₁, id₁, k₁.0, ap (λ (z : View). z.seen) k₁.1)
+    let r = c.find.ensures.seat.others in let k = read_first g (goal.at.returns-then-below-name-clause-told g c).After-find in
+    (ap (λ s. s.book) r, ap (λ s. s.id) r, k.0, ap (λ (z : View). z.seen) k.1)
 
 pub open-requires-clause-book : goal.open-requires-clause-book
 open-requires-clause-book g c = ap (λ s. s.book) c.find.ensures.seat.others ∙ c.requires.book
 
 pub open-requires-clause-sighted : goal.open-requires-clause-sighted
-open-requires-clause-sighted g c =
-    let v = c.args.pass.now.view in
-    let b = c.args.pass.now.book in
-    let words = c.args.here.words.now in
-    let t = c.args.here.taken in
-    let name = c.args.name in
-    let key = c.args.key in
-    let height = c.args.height in
-    let o = c.requires.open in
-    let v₁ = c.find.new.seat.view in
-    let r₁ = c.find.ensures.seat.others in
-    let rest = ap (λ s. s.view) r₁ in
-    let k₁ = reading_on_keeps v v₁ o.opened.before o.names.spot.number t (last_saw v₁.reads) (open_read v b words t o.names.spot o.names.placed o.opened v₁ rest) in
-    let book₁ = ap (λ s. s.book) r₁ in
-    let id₁ = ap (λ s. s.id) r₁ in
-    let n = sights_kept v v₁ k₁.0 c.args.below c.requires.below in
-    n
+open-requires-clause-sighted g c = sighted g (goal.at.open-requires-clause-sighted g c).After-find
 
 pub returns-in_default-open-clause-told : goal.returns-in_default-open-clause-told
 returns-in_default-open-clause-told g c =
-    let v = c.args.pass.now.view in
-    let b = c.args.pass.now.book in
-    let words = c.args.here.words.now in
-    let t = c.args.here.taken in
-    let name = c.args.name in
-    let key = c.args.key in
-    let height = c.args.height in
-    let o = c.requires.open in
-    let v₁ = c.find.new.seat.view in
-    let r₁ = c.find.ensures.seat.others in
-    let rest = ap (λ s. s.view) r₁ in
-    let k₁ = reading_on_keeps v v₁ o.opened.before o.names.spot.number t (last_saw v₁.reads) (open_read v b words t o.names.spot o.names.placed o.opened v₁ rest) in
-    let book₁ = ap (λ s. s.book) r₁ in
-    let id₁ = ap (λ s. s.id) r₁ in
-    let n = sights_kept v v₁ k₁.0 c.args.below c.requires.below in
-    let v₂ = c.open.new.pass.view in
-    let told₂ = c.open.ensures.told in
-    let b₂ = c.open.new.pass.book in
-    (told₂.0 ∙ book₁, told₂.1 ∙ id₁, keeps_then v v₁ v₂ k₁.0 told₂.2, ap (λ (z : View). z.seen) (told₂.3 ∙ k₁.1))
+    let r = c.find.ensures.seat.others in let told = c.open.ensures.told in let k = read_first g (goal.at.returns-in_default-open-clause-told g c).After-find in
+    (told.0 ∙ ap (λ s. s.book) r, told.1 ∙ ap (λ s. s.id) r, keeps_then c.args.pass.now.view c.find.new.seat.view c.open.new.pass.view k.0 told.2, ap (λ (z : View). z.seen) (told.3 ∙ k.1))
 
 pub word-head-requires-clause-may : goal.word-head-requires-clause-may
 word-head-requires-clause-may g c =
-    let v = c.args.pass.now.view in
-    let b = c.args.pass.now.book in
-    let words = c.args.here.words.now in
-    let t = c.args.here.taken in
-    let name = c.args.name in
-    let key = c.args.key in
-    let height = c.args.height in
-    let o = c.requires.open in
-    let v₁ = c.find.new.seat.view in
-    let r₁ = c.find.ensures.seat.others in
-    let rest = ap (λ s. s.view) r₁ in
-    let k₁ = reading_on_keeps v v₁ o.opened.before o.names.spot.number t (last_saw v₁.reads) (open_read v b words t o.names.spot o.names.placed o.opened v₁ rest) in
-    let book₁ = ap (λ s. s.book) r₁ in
-    let id₁ = ap (λ s. s.id) r₁ in
-    let n = sights_kept v v₁ k₁.0 c.args.below c.requires.below in
-    let v₂ = c.open.new.pass.view in
-    let told₂ = c.open.ensures.told in
-    let b₂ = c.open.new.pass.book in
-    let words₂ = c.in-Some-open.other.words.now in
-    let t₂ = c.in-Some-open.other.taken in
-    let o₂ = c.in-Some-open.ensures.opened.1 n in
-    let free₂ = c.in-Some-open.ensures.opened.0 in
-    let reads₂ = c.in-Some-open.ensures.taken n in
-    let placed₂ = told₂.2.places (place_at n.spot) n.placed in
-    may_read_open v₂ b₂ words₂ t₂ n.spot placed₂ o₂
+    let a = (goal.at.word-head-requires-clause-may g c).In-Some-open in
+    may_read_open c.open.new.pass.view c.open.new.pass.book c.in-Some-open.other.words.now c.in-Some-open.other.taken (n g a).spot (c.open.ensures.told.2.places (place_at (n g a).spot) (n g a).placed) (below_open g a)
 
 pub word-head-requires-clause-inside : goal.word-head-requires-clause-inside
 word-head-requires-clause-inside g c =
-    let v = c.args.pass.now.view in
-    let b = c.args.pass.now.book in
-    let words = c.args.here.words.now in
-    let t = c.args.here.taken in
-    let name = c.args.name in
-    let key = c.args.key in
-    let height = c.args.height in
-    let o = c.requires.open in
-    let v₁ = c.find.new.seat.view in
-    let r₁ = c.find.ensures.seat.others in
-    let rest = ap (λ s. s.view) r₁ in
-    let k₁ = reading_on_keeps v v₁ o.opened.before o.names.spot.number t (last_saw v₁.reads) (open_read v b words t o.names.spot o.names.placed o.opened v₁ rest) in
-    let book₁ = ap (λ s. s.book) r₁ in
-    let id₁ = ap (λ s. s.id) r₁ in
-    let n = sights_kept v v₁ k₁.0 c.args.below c.requires.below in
-    let v₂ = c.open.new.pass.view in
-    let told₂ = c.open.ensures.told in
-    let b₂ = c.open.new.pass.book in
-    let words₂ = c.in-Some-open.other.words.now in
-    let t₂ = c.in-Some-open.other.taken in
-    let o₂ = c.in-Some-open.ensures.opened.1 n in
-    let free₂ = c.in-Some-open.ensures.opened.0 in
-    let reads₂ = c.in-Some-open.ensures.taken n in
-    let placed₂ = told₂.2.places (place_at n.spot) n.placed in
-    open_long v₂ b₂ words₂ t₂ n.spot placed₂ o₂
+    let a = (goal.at.word-head-requires-clause-inside g c).In-Some-open in
+    open_long c.open.new.pass.view c.open.new.pass.book c.in-Some-open.other.words.now c.in-Some-open.other.taken (n g a).spot (c.open.ensures.told.2.places (place_at (n g a).spot) (n g a).placed) (below_open g a)
 
 pub check-requires-clause-learns : goal.check-requires-clause-learns
 check-requires-clause-learns g c =
-    let v = c.args.pass.now.view in
-    let b = c.args.pass.now.book in
-    let words = c.args.here.words.now in
-    let t = c.args.here.taken in
-    let name = c.args.name in
-    let key = c.args.key in
-    let height = c.args.height in
-    let o = c.requires.open in
-    let v₁ = c.find.new.seat.view in
-    let r₁ = c.find.ensures.seat.others in
-    let rest = ap (λ s. s.view) r₁ in
-    let k₁ = reading_on_keeps v v₁ o.opened.before o.names.spot.number t (last_saw v₁.reads) (open_read v b words t o.names.spot o.names.placed o.opened v₁ rest) in
-    let book₁ = ap (λ s. s.book) r₁ in
-    let id₁ = ap (λ s. s.id) r₁ in
-    let n = sights_kept v v₁ k₁.0 c.args.below c.requires.below in
-    let v₂ = c.open.new.pass.view in
-    let told₂ = c.open.ensures.told in
-    let b₂ = c.open.new.pass.book in
-    let words₂ = c.in-Some-open.other.words.now in
-    let t₂ = c.in-Some-open.other.taken in
-    let o₂ = c.in-Some-open.ensures.opened.1 n in
-    let free₂ = c.in-Some-open.ensures.opened.0 in
-    let reads₂ = c.in-Some-open.ensures.taken n in
-    let placed₂ = told₂.2.places (place_at n.spot) n.placed in
-    let kept = c.find.ensures.kept in
-    let word = c.in-Some.word in
-    let form = c.form_below-form.ensures o.names.spot.shape.key o.names.spot.shape.form o.names.named in
-    let found : c.find.result ≡ Some word = c.in-Some.is in
-    let finds = λ (content : List ℕ) (m : TableNode ℕ) (agrees : Agree content (last_saw v₁.reads)) (encodes : Encodes content m) (formed : m.form ≡ o.names.spot.shape.form). subst (λ (z : ℕ × Option ℕ). IsBelow (lookup m.children z.0) z.1) (λ i. (c.byte_at-byte.ensures i, found i)) (c.find.ensures.is content m agrees encodes (formed ∙ sym form)) in
-    let high = c.requires.height.0 in
-    let is_child = λ (s : ℕ) (e : IsWord word (Node s)). sym (c.slot_below.ensures s e) ∙ c.if-slot_below-below.false in
-    let v₃ = c.word-head.new.seat.view in
-    let r₃ = c.word-head.ensures.seat.others in
-    let rest₃ = ap (λ s. s.view) r₃ in
-    let first = get_or words₂ 0 c.index-other-0.result in
-    let at_k = (first_word (place_at n.spot) b₂ words₂ o₂.are first c.index-other-0.result refl).0 in
-    let at_number = c.requires.above.0 ∙ ap first_number o.opened.reads in
-    let at_word = c.requires.above.1 in
-    let may = may_watch v b words t name key height o high v₁ rest kept word finds c.args.below n is_child c.if-below-name.false v₂ b₂ words₂ t₂ told₂.2 told₂.3 o₂ reads₂ v₃ rest₃ first.key at_k c.word-head.new.seat.id (t₂ / 4) (t / 4) (omega (arith, free₂)) (let f = o.free in omega (arith, f)) in
-    subst (λ (z : ℕ × Option ℕ). MayCheck v₃ first.key IsMap c.word-head.new.seat.id (LearnsBelow z.0 z.1) t₂) (λ i. (sym at_number i, sym at_word i)) may
+    let a = (goal.at.check-requires-clause-learns g c).After-index-other-0 in
+    subst (λ (z : ℕ × Option ℕ). MayCheck c.word-head.new.seat.view (first_key g a) IsMap c.word-head.new.seat.id (LearnsBelow z.0 z.1) c.in-Some-open.other.taken)
+    (λ i. (sym (c.requires.above.0 ∙ ap first_number c.requires.open.opened.reads) i, sym c.requires.above.1 i)) (may g a c.word-head.new.seat.id)
 
 pub returns-then-not-check-clause-told : goal.returns-then-not-check-clause-told
 returns-then-not-check-clause-told g c =
-    let v = c.args.pass.now.view in
-    let b = c.args.pass.now.book in
-    let words = c.args.here.words.now in
-    let t = c.args.here.taken in
-    let name = c.args.name in
-    let key = c.args.key in
-    let height = c.args.height in
-    let o = c.requires.open in
-    let v₁ = c.find.new.seat.view in
-    let r₁ = c.find.ensures.seat.others in
-    let rest = ap (λ s. s.view) r₁ in
-    let k₁ = reading_on_keeps v v₁ o.opened.before o.names.spot.number t (last_saw v₁.reads) (open_read v b words t o.names.spot o.names.placed o.opened v₁ rest) in
-    let book₁ = ap (λ s. s.book) r₁ in
-    let id₁ = ap (λ s. s.id) r₁ in
-    let n = sights_kept v v₁ k₁.0 c.args.below c.requires.below in
-    let v₂ = c.open.new.pass.view in
-    let told₂ = c.open.ensures.told in
-    let b₂ = c.open.new.pass.book in
-    let words₂ = c.in-Some-open.other.words.now in
-    let t₂ = c.in-Some-open.other.taken in
-    let o₂ = c.in-Some-open.ensures.opened.1 n in
-    let free₂ = c.in-Some-open.ensures.opened.0 in
-    let reads₂ = c.in-Some-open.ensures.taken n in
-    let placed₂ = told₂.2.places (place_at n.spot) n.placed in
-    let kept = c.find.ensures.kept in
-    let word = c.in-Some.word in
-    let form = c.form_below-form.ensures o.names.spot.shape.key o.names.spot.shape.form o.names.named in
-    let found : c.find.result ≡ Some word = c.in-Some.is in
-    let finds = λ (content : List ℕ) (m : TableNode ℕ) (agrees : Agree content (last_saw v₁.reads)) (encodes : Encodes content m) (formed : m.form ≡ o.names.spot.shape.form). subst (λ (z : ℕ × Option ℕ). IsBelow (lookup m.children z.0) z.1) (λ i. (c.byte_at-byte.ensures i, found i)) (c.find.ensures.is content m agrees encodes (formed ∙ sym form)) in
-    let high = c.requires.height.0 in
-    let is_child = λ (s : ℕ) (e : IsWord word (Node s)). sym (c.slot_below.ensures s e) ∙ c.if-slot_below-below.false in
-    let v₃ = c.word-head.new.seat.view in
-    let r₃ = c.word-head.ensures.seat.others in
-    let rest₃ = ap (λ s. s.view) r₃ in
-    let first = get_or words₂ 0 c.index-other-0.result in
-    let at_k = (first_word (place_at n.spot) b₂ words₂ o₂.are first c.index-other-0.result refl).0 in
-    let e = c.check.ensures.told in
-    let s = c.check.ensures.seat in
-    let w = c.check.new.seat.view in
-    let book = s.0 ∙ (ap (λ s. s.book) r₃ ∙ (told₂.0 ∙ book₁)) in
-    let id = s.1 ∙ (ap (λ s. s.id) r₃ ∙ (told₂.1 ∙ id₁)) in
-    let at_number = c.requires.above.0 ∙ ap first_number o.opened.reads in
-    let at_word = c.requires.above.1 in
-    let told = subst (λ (z : ℕ × Option ℕ). Checks (LearnsBelow z.0 z.1) (reads first.key) v₃ e.0 none_joined w) (λ i. (at_number i, at_word i)) e.2 in
-    let k = watch_missed v b words t name key height o high v₁ rest kept word finds c.args.below n is_child c.if-below-name.false v₂ b₂ words₂ t₂ told₂.2 told₂.3 o₂ reads₂ v₃ rest₃ first.key at_k w e.0 told (search rules) in
-    (book, id, keeps_then v v₂ w (keeps_then v v₁ v₂ k₁.0 told₂.2) k.0, ap (λ (z : View). z.seen) (k.1 ∙ (told₂.3 ∙ k₁.1)))
+    let a = (goal.at.returns-then-not-check-clause-told g c).After-check in
+    let h = head_of g a in let op = opened g h in
+    let o = c.requires.open in let v = c.args.pass.now.view in
+    let k = watch_missed v c.args.pass.now.book c.args.here.words.now c.args.here.taken c.args.name c.args.key c.args.height o c.requires.height.0 c.find.new.seat.view (ap (λ s. s.view) c.find.ensures.seat.others) c.find.ensures.kept c.in-Some.word (finds g h)
+    c.args.below (n g op) (is_child g h) c.if-below-name.false c.open.new.pass.view c.open.new.pass.book c.in-Some-open.other.words.now c.in-Some-open.other.taken c.open.ensures.told.2 c.open.ensures.told.3 (below_open g op) (c.in-Some-open.ensures.taken (n g op))
+    c.word-head.new.seat.view (ap (λ s. s.view) c.word-head.ensures.seat.others) (first_key g h) (at_key g h) c.check.new.seat.view c.check.ensures.told.0 (told g a) (search rules) in
+    (book_then g a, id_then g a, keeps_then v c.open.new.pass.view c.check.new.seat.view (keeps_open g op) k.0, ap (λ (z : View). z.seen) k.1 ∙ seen_open g op)
 
 pub returns-in-Leaves-clause-told : goal.returns-in-Leaves-clause-told
 returns-in-Leaves-clause-told g c =
-    let v = c.args.pass.now.view in
-    let b = c.args.pass.now.book in
-    let words = c.args.here.words.now in
-    let t = c.args.here.taken in
-    let name = c.args.name in
-    let key = c.args.key in
-    let height = c.args.height in
-    let o = c.requires.open in
-    let v₁ = c.find.new.seat.view in
-    let r₁ = c.find.ensures.seat.others in
-    let rest = ap (λ s. s.view) r₁ in
-    let k₁ = reading_on_keeps v v₁ o.opened.before o.names.spot.number t (last_saw v₁.reads) (open_read v b words t o.names.spot o.names.placed o.opened v₁ rest) in
-    let book₁ = ap (λ s. s.book) r₁ in
-    let id₁ = ap (λ s. s.id) r₁ in
-    let n = sights_kept v v₁ k₁.0 c.args.below c.requires.below in
-    let v₂ = c.open.new.pass.view in
-    let told₂ = c.open.ensures.told in
-    let b₂ = c.open.new.pass.book in
-    let words₂ = c.in-Some-open.other.words.now in
-    let t₂ = c.in-Some-open.other.taken in
-    let o₂ = c.in-Some-open.ensures.opened.1 n in
-    let free₂ = c.in-Some-open.ensures.opened.0 in
-    let reads₂ = c.in-Some-open.ensures.taken n in
-    let placed₂ = told₂.2.places (place_at n.spot) n.placed in
-    let kept = c.find.ensures.kept in
-    let word = c.in-Some.word in
-    let form = c.form_below-form.ensures o.names.spot.shape.key o.names.spot.shape.form o.names.named in
-    let found : c.find.result ≡ Some word = c.in-Some.is in
-    let finds = λ (content : List ℕ) (m : TableNode ℕ) (agrees : Agree content (last_saw v₁.reads)) (encodes : Encodes content m) (formed : m.form ≡ o.names.spot.shape.form). subst (λ (z : ℕ × Option ℕ). IsBelow (lookup m.children z.0) z.1) (λ i. (c.byte_at-byte.ensures i, found i)) (c.find.ensures.is content m agrees encodes (formed ∙ sym form)) in
-    let high = c.requires.height.0 in
-    let is_child = λ (s : ℕ) (e : IsWord word (Node s)). sym (c.slot_below.ensures s e) ∙ c.if-slot_below-below.false in
-    let v₃ = c.word-head.new.seat.view in
-    let r₃ = c.word-head.ensures.seat.others in
-    let rest₃ = ap (λ s. s.view) r₃ in
-    let first = get_or words₂ 0 c.index-other-0.result in
-    let at_k = (first_word (place_at n.spot) b₂ words₂ o₂.are first c.index-other-0.result refl).0 in
-    let e = c.check.ensures.told in
-    let s = c.check.ensures.seat in
-    let w = c.check.new.seat.view in
-    let book = s.0 ∙ (ap (λ s. s.book) r₃ ∙ (told₂.0 ∙ book₁)) in
-    let id = s.1 ∙ (ap (λ s. s.id) r₃ ∙ (told₂.1 ∙ id₁)) in
-    let at_number = c.requires.above.0 ∙ ap first_number o.opened.reads in
-    let at_word = c.requires.above.1 in
-    let told = subst (λ (z : ℕ × Option ℕ). Checks (LearnsBelow z.0 z.1) (reads first.key) v₃ e.0 none_joined w) (λ i. (at_number i, at_word i)) e.2 in
-    let k = watch_keeps v b words t name key height o high v₁ rest kept word finds c.args.below n is_child c.if-below-name.false v₂ b₂ words₂ t₂ told₂.2 told₂.3 o₂ reads₂ v₃ rest₃ first.key at_k w e.0 told (search rules) in
-    (book, id, keeps_then v v₂ w (keeps_then v v₁ v₂ k₁.0 told₂.2) k.0, k.1 ∙ ap (λ (z : View). z.seen) (told₂.3 ∙ k₁.1))
+    let a = (goal.at.returns-in-Leaves-clause-told g c).After-check in let k = kept g a (search rules) in
+    (book_then g a, id_then g a, k.0, k.1)
 
 pub returns-in-Covers-clause-told : goal.returns-in-Covers-clause-told
 returns-in-Covers-clause-told g c =
-    let v = c.args.pass.now.view in
-    let b = c.args.pass.now.book in
-    let words = c.args.here.words.now in
-    let t = c.args.here.taken in
-    let name = c.args.name in
-    let key = c.args.key in
-    let height = c.args.height in
-    let o = c.requires.open in
-    let v₁ = c.find.new.seat.view in
-    let r₁ = c.find.ensures.seat.others in
-    let rest = ap (λ s. s.view) r₁ in
-    let k₁ = reading_on_keeps v v₁ o.opened.before o.names.spot.number t (last_saw v₁.reads) (open_read v b words t o.names.spot o.names.placed o.opened v₁ rest) in
-    let book₁ = ap (λ s. s.book) r₁ in
-    let id₁ = ap (λ s. s.id) r₁ in
-    let n = sights_kept v v₁ k₁.0 c.args.below c.requires.below in
-    let v₂ = c.open.new.pass.view in
-    let told₂ = c.open.ensures.told in
-    let b₂ = c.open.new.pass.book in
-    let words₂ = c.in-Some-open.other.words.now in
-    let t₂ = c.in-Some-open.other.taken in
-    let o₂ = c.in-Some-open.ensures.opened.1 n in
-    let free₂ = c.in-Some-open.ensures.opened.0 in
-    let reads₂ = c.in-Some-open.ensures.taken n in
-    let placed₂ = told₂.2.places (place_at n.spot) n.placed in
-    let kept = c.find.ensures.kept in
-    let word = c.in-Some.word in
-    let form = c.form_below-form.ensures o.names.spot.shape.key o.names.spot.shape.form o.names.named in
-    let found : c.find.result ≡ Some word = c.in-Some.is in
-    let finds = λ (content : List ℕ) (m : TableNode ℕ) (agrees : Agree content (last_saw v₁.reads)) (encodes : Encodes content m) (formed : m.form ≡ o.names.spot.shape.form). subst (λ (z : ℕ × Option ℕ). IsBelow (lookup m.children z.0) z.1) (λ i. (c.byte_at-byte.ensures i, found i)) (c.find.ensures.is content m agrees encodes (formed ∙ sym form)) in
-    let high = c.requires.height.0 in
-    let is_child = λ (s : ℕ) (e : IsWord word (Node s)). sym (c.slot_below.ensures s e) ∙ c.if-slot_below-below.false in
-    let v₃ = c.word-head.new.seat.view in
-    let r₃ = c.word-head.ensures.seat.others in
-    let rest₃ = ap (λ s. s.view) r₃ in
-    let first = get_or words₂ 0 c.index-other-0.result in
-    let at_k = (first_word (place_at n.spot) b₂ words₂ o₂.are first c.index-other-0.result refl).0 in
-    let e = c.check.ensures.told in
-    let s = c.check.ensures.seat in
-    let w = c.check.new.seat.view in
-    let book = s.0 ∙ (ap (λ s. s.book) r₃ ∙ (told₂.0 ∙ book₁)) in
-    let id = s.1 ∙ (ap (λ s. s.id) r₃ ∙ (told₂.1 ∙ id₁)) in
-    let at_number = c.requires.above.0 ∙ ap first_number o.opened.reads in
-    let at_word = c.requires.above.1 in
-    let told = subst (λ (z : ℕ × Option ℕ). Checks (LearnsBelow z.0 z.1) (reads first.key) v₃ e.0 none_joined w) (λ i. (at_number i, at_word i)) e.2 in
-    let k = watch_keeps v b words t name key height o high v₁ rest kept word finds c.args.below n is_child c.if-below-name.false v₂ b₂ words₂ t₂ told₂.2 told₂.3 o₂ reads₂ v₃ rest₃ first.key at_k w e.0 told (search rules) in
-    (book, id, keeps_then v v₂ w (keeps_then v v₁ v₂ k₁.0 told₂.2) k.0, k.1 ∙ ap (λ (z : View). z.seen) (told₂.3 ∙ k₁.1))
+    let a = (goal.at.returns-in-Covers-clause-told g c).After-check in let k = kept g a (search rules) in
+    (book_then g a, id_then g a, k.0, k.1)
 
 pub returns-in-Leaves-clause-forked : goal.returns-in-Leaves-clause-forked
 returns-in-Leaves-clause-forked g c = λ _.
-    let v = c.args.pass.now.view in
-    let b = c.args.pass.now.book in
-    let words = c.args.here.words.now in
-    let t = c.args.here.taken in
-    let name = c.args.name in
-    let key = c.args.key in
-    let height = c.args.height in
-    let o = c.requires.open in
-    let v₁ = c.find.new.seat.view in
-    let r₁ = c.find.ensures.seat.others in
-    let rest = ap (λ s. s.view) r₁ in
-    let k₁ = reading_on_keeps v v₁ o.opened.before o.names.spot.number t (last_saw v₁.reads) (open_read v b words t o.names.spot o.names.placed o.opened v₁ rest) in
-    let book₁ = ap (λ s. s.book) r₁ in
-    let id₁ = ap (λ s. s.id) r₁ in
-    let n = sights_kept v v₁ k₁.0 c.args.below c.requires.below in
-    let v₂ = c.open.new.pass.view in
-    let told₂ = c.open.ensures.told in
-    let b₂ = c.open.new.pass.book in
-    let words₂ = c.in-Some-open.other.words.now in
-    let t₂ = c.in-Some-open.other.taken in
-    let o₂ = c.in-Some-open.ensures.opened.1 n in
-    let free₂ = c.in-Some-open.ensures.opened.0 in
-    let reads₂ = c.in-Some-open.ensures.taken n in
-    let placed₂ = told₂.2.places (place_at n.spot) n.placed in
-    let kept = c.find.ensures.kept in
-    let word = c.in-Some.word in
-    let form = c.form_below-form.ensures o.names.spot.shape.key o.names.spot.shape.form o.names.named in
-    let found : c.find.result ≡ Some word = c.in-Some.is in
-    let finds = λ (content : List ℕ) (m : TableNode ℕ) (agrees : Agree content (last_saw v₁.reads)) (encodes : Encodes content m) (formed : m.form ≡ o.names.spot.shape.form). subst (λ (z : ℕ × Option ℕ). IsBelow (lookup m.children z.0) z.1) (λ i. (c.byte_at-byte.ensures i, found i)) (c.find.ensures.is content m agrees encodes (formed ∙ sym form)) in
-    let high = c.requires.height.0 in
-    let is_child = λ (s : ℕ) (e : IsWord word (Node s)). sym (c.slot_below.ensures s e) ∙ c.if-slot_below-below.false in
-    let v₃ = c.word-head.new.seat.view in
-    let r₃ = c.word-head.ensures.seat.others in
-    let rest₃ = ap (λ s. s.view) r₃ in
-    let first = get_or words₂ 0 c.index-other-0.result in
-    let at_k = (first_word (place_at n.spot) b₂ words₂ o₂.are first c.index-other-0.result refl).0 in
-    let e = c.check.ensures.told in
-    let s = c.check.ensures.seat in
-    let w = c.check.new.seat.view in
-    let book = s.0 ∙ (ap (λ s. s.book) r₃ ∙ (told₂.0 ∙ book₁)) in
-    let id = s.1 ∙ (ap (λ s. s.id) r₃ ∙ (told₂.1 ∙ id₁)) in
-    let at_number = c.requires.above.0 ∙ ap first_number o.opened.reads in
-    let at_word = c.requires.above.1 in
-    let told = subst (λ (z : ℕ × Option ℕ). Checks (LearnsBelow z.0 z.1) (reads first.key) v₃ e.0 none_joined w) (λ i. (at_number i, at_word i)) e.2 in
+    let a = (goal.at.returns-in-Leaves-clause-forked g c).After-check in
+    let h = head_of g a in let op = opened g h in
+    let o = c.requires.open in let v = c.args.pass.now.view in
     let sight : c.compare.result ≡ sights.Leaves c.in-Leaves.field-0 c.in-Leaves.field-1 = c.in-Leaves.is in
-    let sees = λ (form : ℕ) (p : List ℕ) (h : IsHead c.word-head.result form p). subst (Sees p key) sight (c.compare.ensures form p h) in
-    watch_forks v b words t name key height o high v₁ rest kept word finds c.args.below n is_child c.if-below-name.false v₂ b₂ words₂ t₂ told₂.2 told₂.3 o₂ reads₂ v₃ rest₃ first.key at_k w e.0 told (search rules)
-    c.check.new.seat.book (subst (λ z. AreOf (place_at o.names.spot) z words) (sym book) o.opened.are) c.word-head.result (λ content agrees. (c.word-head.ensures.read content agrees).0) c.ranges.key.fits c.in-Leaves.field-0 c.in-Leaves.field-1 sees
+    let sees = λ (form : ℕ) (p : List ℕ) (is : IsHead c.word-head.result form p). subst (Sees p c.args.key) sight (c.compare.ensures form p is) in
+    watch_forks v c.args.pass.now.book c.args.here.words.now c.args.here.taken c.args.name c.args.key c.args.height o c.requires.height.0 c.find.new.seat.view (ap (λ s. s.view) c.find.ensures.seat.others) c.find.ensures.kept c.in-Some.word (finds g h)
+    c.args.below (n g op) (is_child g h) c.if-below-name.false c.open.new.pass.view c.open.new.pass.book c.in-Some-open.other.words.now c.in-Some-open.other.taken c.open.ensures.told.2 c.open.ensures.told.3 (below_open g op) (c.in-Some-open.ensures.taken (n g op))
+    c.word-head.new.seat.view (ap (λ s. s.view) c.word-head.ensures.seat.others) (first_key g h) (at_key g h) c.check.new.seat.view c.check.ensures.told.0 (told g a) (search rules)
+    c.check.new.seat.book (subst (λ z. AreOf (place_at o.names.spot) z c.args.here.words.now) (sym (book_then g a)) o.opened.are) c.word-head.result (λ content agrees. (c.word-head.ensures.read content agrees).0) c.ranges.key.fits c.in-Leaves.field-0 c.in-Leaves.field-1 sees

@@ -1,5 +1,4 @@
 use Rattle.std.proofs.Common.{rules, refl, ℕ, subst, ◌≡◌, ◌∙◌}
-use Rattle.live_nodes.specs.Seats.{place}
 use Rattle.live_law.specs.Known.{Known}
 use Rattle.live_calls.specs.Calls.{known_of}
 use Rattle.live_calls.specs.Ways.{Names}

@@ -1,4 +1,4 @@
-use Rattle.std.proofs.Common.{rules, arith, refl, subst, None, ◌≡◌, ◌+◌, ◌∙◌}
+use Rattle.std.proofs.Common.{rules, refl, subst, None, ◌≡◌, ◌+◌, ◌∙◌}
 use Rattle.live_calls.proofs.Finds.{keeps_then, when_out}
 use Rattle.live_scans.specs.inner.Stops.{IsStand, Reaches}
 use Rattle.live_scans.specs.declared.seek.Reach.TheVariants as reaches

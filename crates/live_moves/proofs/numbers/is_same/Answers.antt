@@ -1,4 +1,3 @@
-use Rattle.std.proofs.Common.{◌≡◌}
 use Rattle.std.proofs.lemmas.Slice.Eq.{slice_eq-Decides}
 use Rattle.live_moves.proofs.Alike.{pair_Decides}
 use Rattle.live_moves.proofs.numbers.is_same.Goals as goal

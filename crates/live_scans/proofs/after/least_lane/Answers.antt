@@ -1,4 +1,4 @@
-use Rattle.std.proofs.Common.{rules, arith, ap, w64, ℕ, ◌≡◌, ◌<◌, ◌≤◌, ◌∙◌, sym, inl, inr}
+use Rattle.std.proofs.Common.{rules, arith, ap, w64, ◌∙◌, sym, inl, inr}
 use Rattle.std.specs.Int.{bit_at}
 use Rattle.std.specs.Int.RustNames.{bit_and}
 use Rattle.std.specs.Int.Count.{count_trailing_zeros}

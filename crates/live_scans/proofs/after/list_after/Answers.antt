@@ -1,4 +1,4 @@
-use Rattle.std.proofs.Common.{rules, arith, ap, subst, sym, ◌≡◌, ℕ, ◌+◌, ◌∙◌, Option, Some, None, true}
+use Rattle.std.proofs.Common.{rules, ap, subst, sym, ◌≡◌, ℕ, ◌+◌, ◌∙◌, Option, Some, None, true}
 use Rattle.node_base.specs.Form.{limit}
 use Rattle.live_cells.specs.Words.{at}
 use Rattle.live_cells.specs.ListCells.{count, key}

@@ -1,4 +1,4 @@
-use Rattle.std.proofs.Common.{rules, arith, ap, get_or, length, w8, ℕ, Bool, true, false, ◌≡◌, ◌<◌, ◌≤◌, ◌∙◌, ◌∷◌, [], sym, subst}
+use Rattle.std.proofs.Common.{rules, arith, ap, get_or, length, ℕ, ◌≡◌, ◌<◌, ◌≤◌, ◌∙◌, ◌∷◌, [], sym, subst}
 use Rattle.std.proofs.lemmas.Bool.{le-leb, lt-leb}
 use lib.Dec.{leb}
 use Rattle.live_cells.specs.Words.{lane}

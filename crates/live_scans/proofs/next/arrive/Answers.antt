@@ -1,4 +1,4 @@
-use Rattle.std.proofs.Common.{rules, arith, sym, ap, ◌/◌, ◌≡◌, ◌∙◌, IsTrue}
+use Rattle.std.proofs.Common.{arith, sym, ap, ◌/◌}
 use mathlib.Core.Logic.{dite}
 use native.Mathlib.Decide.{ℕ_discrete}
 use Rattle.live_law.specs.Levels.{place_at}

@@ -1,4 +1,4 @@
-use Rattle.std.proofs.Common.{rules, arith, refl, sym, ap, subst, get_or, ◌≡◌, ℕ, ◌+◌, ◌/◌, ◌∙◌, Some, None}
+use Rattle.std.proofs.Common.{rules, arith, refl, sym, ap, subst, ◌+◌, ◌/◌}
 use Rattle.live_nodes.specs.Seats.{Agree}
 use Rattle.live_rows.specs.Rows.{last_saw}
 use Rattle.live_law.specs.Levels.{place_at}

@@ -1,4 +1,4 @@
-use Rattle.std.proofs.Common.{rules, arith, sym, ap, subst, ◌≡◌, ◌∙◌, ℕ, List, None}
+use Rattle.std.proofs.Common.{rules, sym, subst, ◌≡◌, ◌∙◌, ℕ, List, None}
 use Rattle.share_rule.specs.History.{Entry}
 use Rattle.live_calls.proofs.Finds.{keeps_then}
 use Rattle.live_scans.specs.inner.Moments.{SeesMore, HasNone}

@@ -1,4 +1,4 @@
-use Rattle.std.proofs.Common.{rules, arith, sym, ap, subst, ◌≡◌, ◌∙◌, true, None}
+use Rattle.std.proofs.Common.{arith, sym, ap, subst, ◌∙◌, true}
 use Rattle.live_nodes.specs.Seats.{Agree}
 use Rattle.live_rows.specs.Rows.{last_saw}
 use Rattle.live_order.specs.Order.{HasNearest}

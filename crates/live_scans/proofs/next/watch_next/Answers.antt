@@ -1,4 +1,4 @@
-use Rattle.std.proofs.Common.{rules, arith, refl, sym, ap, subst, get_or, ℕ, List, Option, Some, ◌/◌, ◌≡◌, ◌∙◌}
+use Rattle.std.proofs.Common.{rules, arith, refl, sym, ap, subst, get_or, ℕ, List, Option, ◌/◌, ◌≡◌, ◌∙◌}
 use Rattle.word_book.specs.Book.{reads, none_joined}
 use Rattle.node_table.specs.declared.child.Child.TheVariants.{Node}
 use Rattle.live_encodes.specs.Encodes.{IsWord}
@@ -13,7 +13,6 @@ use Rattle.live_calls.specs.Sees.{Sees}
 use Rattle.live_calls.specs.Forks.{first_number}
 use Rattle.live_calls.specs.declared.sight.Sight.TheVariants as sights
 use Rattle.live_calls.proofs.Finds.{keeps_then}
-use Rattle.live_calls.proofs.Sights.{sights_kept}
 use Rattle.live_calls.proofs.Views.{first_word, may_read_open, open_long}
 use Rattle.live_scans.proofs.Nexts.{may_watch_next, next_missed, next_keeps, next_is}
 use Rattle.live_scans.proofs.next.watch_next.Goals as goal

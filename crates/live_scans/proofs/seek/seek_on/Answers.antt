@@ -1,4 +1,4 @@
-use Rattle.std.proofs.Common.{rules, arith, refl, sym, ap, subst, inr, ℕ, Some, None, ◌≡◌, ◌∙◌, true}
+use Rattle.std.proofs.Common.{rules, arith, refl, subst, inr, ℕ, Some, None, ◌≡◌, ◌∙◌, true}
 use Rattle.live_calls.specs.Ways.{Names}
 use Rattle.live_calls.proofs.Finds.{keeps_then, names_kept, when_out}
 use Rattle.live_scans.specs.inner.Stops.{IsStand, Reaches}

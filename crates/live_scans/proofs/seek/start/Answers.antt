@@ -3,7 +3,6 @@ use Rattle.share_rule.specs.History.{Entry}
 use Rattle.live_nodes.specs.Seats.{place}
 use Rattle.live_calls.specs.Roots.{SeesRoot, Begins}
 use Rattle.live_calls.proofs.Finds.{keeps_then}
-use Rattle.live_scans.proofs.Passes.{keeps_same}
 use Rattle.live_scans.proofs.seek.start.Goals as goal
 
 pub root_begun-requires-clause-trunk : goal.root_begun-requires-clause-trunk

@@ -5,6 +5,7 @@ use Rattle.share_works.specs.Made.{returned}
 use Rattle.spec_map.specs.Call.{count, counted}
 use Rattle.spec_olc.specs.Runs.{same_number}
 use Rattle.share_moments.specs.declared.state.State.{State}
+use Rattle.share_moments.proofs.Limits.{limit_of}
 use Rattle.share_moments.proofs.Moments.{count_here}
 use Rattle.share_moments.proofs.holds.hold_charged.Goals as goal
 
@@ -18,7 +19,7 @@ release_all-requires-clause-may c =
       all,
       c.if-not-take_all.ensures.took refl,
       ap (λ z. z.0) same,
-      subst (λ z. Contains (λ (s : State). s.map.pairs) c.args.lock.now.slots all z.1) (sym same) h,
+      subst (λ z. Contains (λ (s : State). s.map.pairs) limit_of c.args.lock.now all z.1) (sym same) h,
       count_here all _ (ap (λ z. length (pairs_of z.0)) same),
     )
 

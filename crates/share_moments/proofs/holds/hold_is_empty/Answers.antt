@@ -2,6 +2,7 @@ use Rattle.std.proofs.Common.{ap, refl, subst, sym}
 use Rattle.share_shards.specs.inner.Steps.{pairs_of}
 use Rattle.share_visits.specs.Whole.{Contains}
 use Rattle.share_moments.specs.declared.state.State.{State}
+use Rattle.share_moments.proofs.Limits.{limit_of}
 use Rattle.share_moments.proofs.Moments.{empty_here}
 use Rattle.share_moments.proofs.holds.hold_is_empty.Goals as goal
 
@@ -15,7 +16,7 @@ release_all-requires-clause-may c =
       all,
       c.if-not-take_all.ensures.took refl,
       ap (λ z. z.0) same,
-      subst (λ z. Contains (λ (s : State). s.map.pairs) c.args.lock.now.slots all z.1) (sym same) h,
+      subst (λ z. Contains (λ (s : State). s.map.pairs) limit_of c.args.lock.now all z.1) (sym same) h,
       empty_here all c.pair_count.result (c.pair_count.ensures.count all h),
     )
 

@@ -2,6 +2,7 @@ use Rattle.std.proofs.Common.{ap, refl, subst, sym}
 use Rattle.share_shards.specs.inner.Steps.{pairs_of}
 use Rattle.share_visits.specs.Whole.{Contains}
 use Rattle.share_moments.specs.declared.state.State.{State}
+use Rattle.share_moments.proofs.Limits.{limit_of}
 use Rattle.share_moments.proofs.Listing.{range_here}
 use Rattle.share_moments.proofs.ranges.hold_range.Goals as goal
 
@@ -15,7 +16,7 @@ release_all-requires-clause-may g c =
       all,
       c.if-not-take_all.ensures.took refl,
       ap (λ z. z.0) same,
-      subst (λ z. Contains (λ (s : State). s.map.pairs) c.args.lock.now.slots all z.1) (sym same) h,
+      subst (λ z. Contains (λ (s : State). s.map.pairs) limit_of c.args.lock.now all z.1) (sym same) h,
       range_here all _ (ap (λ z. pairs_of z.0) same) _ _ _,
     )
 
@@ -25,5 +26,5 @@ returns-clause-made g c =
     let all = pairs_of c.list_below-written.new.seat.me.0 in (
       all,
       c.release_all.ensures.held c.args.seat.now.me c.take_all.new.seat.me (c.if-not-take_all.ensures.took refl) view,
-      c.list_below-written.ensures.written all (subst (λ z. Contains (λ (s : State). s.map.pairs) c.args.lock.now.slots (pairs_of z.0) c.take_all.new.seat.me.1) (sym c.list_below-written.ensures.same) (c.if-not-take_all.ensures.all refl)),
+      c.list_below-written.ensures.written all (subst (λ z. Contains (λ (s : State). s.map.pairs) limit_of c.args.lock.now (pairs_of z.0) c.take_all.new.seat.me.1) (sym c.list_below-written.ensures.same) (c.if-not-take_all.ensures.all refl)),
     )

@@ -12,5 +12,5 @@ use Rattle.share_visits.proofs.next.nearest_of_each.Given as goal
 abbrev pub invariant-loop-shard : goal.invariant-loop-shard
 invariant-loop-shard g l =
     (l.seat.table_id ≡ l.initial.seat.table_id) × (l.seat.me ≡ l.initial.seat.me) × (length l.pairs ≡ 64)
-    × ((all : Pairs ℕ) → Contains g.M.MapShard.pairs l.lock.slots all l.initial.seat.me.1
-    → (i : ℕ) → i < l.shard → slice_index_or l.pairs i None ≡ pair_near (kept (keys_at (shard_of l.lock.slots) i) all) (near_of l.near))
+    × ((all : Pairs ℕ) → Contains g.M.MapShard.pairs g.M.MapShard.limit l.lock all l.initial.seat.me.1
+    → (i : ℕ) → i < l.shard → slice_index_or l.pairs i None ≡ pair_near (kept (keys_at (shard_of l.lock.table.slots) i) all) (near_of l.near))

@@ -32,7 +32,7 @@ returns-then-written-buffer-clause-written g c = λ all h.
     let low = inv.2 in
     let old = c.runs.auto.buffer in let new = c.page_rest-written.auto.buffer in
     let listed = inv.5 all h in
-    let here = subst (λ z. Contains g.M.MapShard.pairs c.args.lock.now.slots all z.1) (sym inv.1) h in
+    let here = subst (λ z. Contains g.M.MapShard.pairs g.M.MapShard.limit c.args.lock.now all z.1) (sym inv.1) h in
     let done = run_up g.M.Pages.entry all h.ordered [] c.args.start (c.args.last + 1) before from end n after low run (c.page_rest-written.ensures.written all here (between all c.args.start from) before listed.0 listed.1) in
     elim c.then-written-buffer.branch [
       | then-written-buffer-via-then-written-buffer b ↦
@@ -60,8 +60,8 @@ returns-in_default-clause-written g c = λ all h.
     let ne = c.if-written-buffer.false in
     let old = c.runs.auto.buffer in let new = c.page_rest-written.auto.buffer in
     let listed = inv.5 all h in
-    let here = subst (λ z. Contains g.M.MapShard.pairs c.args.lock.now.slots all z.1) (sym inv.1) h in
-    let there = subst (λ z. Contains g.M.MapShard.pairs c.args.lock.now.slots all z.1) (sym (c.nearest_in_run.ensures.same ∙ (c.page_rest-written.ensures.same ∙ inv.1))) h in
+    let here = subst (λ z. Contains g.M.MapShard.pairs g.M.MapShard.limit c.args.lock.now all z.1) (sym inv.1) h in
+    let there = subst (λ z. Contains g.M.MapShard.pairs g.M.MapShard.limit c.args.lock.now all z.1) (sym (c.nearest_in_run.ensures.same ∙ (c.page_rest-written.ensures.same ∙ inv.1))) h in
     let done = run_up g.M.Pages.entry all h.ordered [] c.args.start (c.args.last + 1) before from end n after low run (c.page_rest-written.ensures.written all here (between all c.args.start from) before listed.0 listed.1) in
     subst (λ l. AreWritten g.M.Pages.entry l before c.list_above.result c.list_above.new.buffer) (sym (between-split all h.ordered c.args.start (end + 1) (c.args.last + 1) (omega (arith, low, run)) (omega (arith, high))))
     (c.list_above.ensures.written all there (between all c.args.start (end + 1)) before done
@@ -78,8 +78,8 @@ returns-then-last-next-clause-written g c = λ all h.
     let ne = c.if-written-buffer.false in
     let old = c.runs.auto.buffer in let new = c.page_rest-written.auto.buffer in
     let listed = inv.5 all h in
-    let here = subst (λ z. Contains g.M.MapShard.pairs c.args.lock.now.slots all z.1) (sym inv.1) h in
-    let there = subst (λ z. Contains g.M.MapShard.pairs c.args.lock.now.slots all z.1) (sym (c.page_rest-written.ensures.same ∙ inv.1)) h in
+    let here = subst (λ z. Contains g.M.MapShard.pairs g.M.MapShard.limit c.args.lock.now all z.1) (sym inv.1) h in
+    let there = subst (λ z. Contains g.M.MapShard.pairs g.M.MapShard.limit c.args.lock.now all z.1) (sym (c.page_rest-written.ensures.same ∙ inv.1)) h in
     let done = run_up g.M.Pages.entry all h.ordered [] c.args.start (c.args.last + 1) before from end n after low run (c.page_rest-written.ensures.written all here (between all c.args.start from) before listed.0 listed.1) in
     let at = after_key all h.ordered end (c.in-Some.next, c.in-Some.field-0-1) (c.in-Some.ensures.found all there) in
     (up_to g.M.Pages.entry all h.ordered [] c.args.start (c.args.last + 1) before (end + 1) (c.args.last + 1) n after (omega (arith, low, run)) (omega (arith, high))
@@ -89,7 +89,7 @@ returns-then-last-next-clause-written g c = λ all h.
 pub runs-smaller : goal.runs-smaller
 runs-smaller g c =
     let inv = c.runs.invariant in
-    let there = subst (λ z. Contains g.M.MapShard.pairs c.args.lock.now.slots c.requires.all.0 z.1) (sym (c.page_rest-written.ensures.same ∙ inv.1)) c.requires.all.1 in
+    let there = subst (λ z. Contains g.M.MapShard.pairs g.M.MapShard.limit c.args.lock.now c.requires.all.0 z.1) (sym (c.page_rest-written.ensures.same ∙ inv.1)) c.requires.all.1 in
     let at = after_key c.requires.all.0 there.ordered c.run_end-end.result (c.in-Some.next, c.in-Some.field-0-1) (c.in-Some.ensures.found c.requires.all.0 there) in
     let up = at.0 in
     let run = c.run_end-end.ensures.from in
@@ -108,7 +108,7 @@ runs-preserved g c =
     let old = c.runs.auto.buffer in let new = c.page_rest-written.auto.buffer in
     let within = c.page_rest-written.ensures.within in
     let past = c.if-last-next.false in
-    let first = subst (λ z. Contains g.M.MapShard.pairs c.args.lock.now.slots c.requires.all.0 z.1) (sym (c.page_rest-written.ensures.same ∙ inv.1)) c.requires.all.1 in
+    let first = subst (λ z. Contains g.M.MapShard.pairs g.M.MapShard.limit c.args.lock.now c.requires.all.0 z.1) (sym (c.page_rest-written.ensures.same ∙ inv.1)) c.requires.all.1 in
     let up = (after_key c.requires.all.0 first.ordered end (c.in-Some.next, c.in-Some.field-0-1) (c.in-Some.ensures.found c.requires.all.0 first)).0 in (
       c.in-Some.ensures.table ∙ (c.page_rest-written.ensures.table ∙ inv.0),
       c.in-Some.ensures.same ∙ (c.page_rest-written.ensures.same ∙ inv.1),
@@ -117,8 +117,8 @@ runs-preserved g c =
       omega (arith, within, new),
       λ all h.
           let listed = inv.5 all h in
-          let here = subst (λ z. Contains g.M.MapShard.pairs c.args.lock.now.slots all z.1) (sym inv.1) h in
-          let there = subst (λ z. Contains g.M.MapShard.pairs c.args.lock.now.slots all z.1) (sym (c.page_rest-written.ensures.same ∙ inv.1)) h in
+          let here = subst (λ z. Contains g.M.MapShard.pairs g.M.MapShard.limit c.args.lock.now all z.1) (sym inv.1) h in
+          let there = subst (λ z. Contains g.M.MapShard.pairs g.M.MapShard.limit c.args.lock.now all z.1) (sym (c.page_rest-written.ensures.same ∙ inv.1)) h in
           let done = run_up g.M.Pages.entry all h.ordered [] c.args.start (c.args.last + 1) before from end n after low run (c.page_rest-written.ensures.written all here (between all c.args.start from) before listed.0 listed.1)
           in
           let at = after_key all h.ordered end (c.in-Some.next, c.in-Some.field-0-1) (c.in-Some.ensures.found all there) in

@@ -33,7 +33,7 @@ returns-in_default-clause-written g c = λ all h done before w is.
     let low = inv.2 in
     let high = inv.3 in
     let known = inv.6 all h done before w is in
-    let found = found_near c.args.lock.now.slots all c.shards-shards.result (above c.runs.key) c.runs.next_pairs c.nearest_in.result c.shards-shards.ensures h.ordered c.nearest_in.ensures (inv.5 all h) in
+    let found = found_near c.args.lock.now.table.slots all c.shards-shards.result (above c.runs.key) c.runs.next_pairs c.nearest_in.result c.shards-shards.ensures h.ordered c.nearest_in.ensures (inv.5 all h) in
     (up_to g.M.Pages.entry all h.ordered done (c.args.key + 1) (c.args.last + 1) before (c.runs.key + 1) (c.args.last + 1) c.runs.written c.runs.buffer (omega (arith, low)) (omega (arith, high))
     (none_after all h.ordered c.runs.key c.args.last c.ranges.last.fits (found ∙ c.in_default.is)) known.0 known.1).0
 
@@ -43,7 +43,7 @@ returns-then-last-first-clause-written g c = λ all h done before w is.
     let low = inv.2 in
     let high = inv.3 in
     let known = inv.6 all h done before w is in
-    let found = found_near c.args.lock.now.slots all c.shards-shards.result (above c.runs.key) c.runs.next_pairs c.nearest_in.result c.shards-shards.ensures h.ordered c.nearest_in.ensures (inv.5 all h) in
+    let found = found_near c.args.lock.now.table.slots all c.shards-shards.result (above c.runs.key) c.runs.next_pairs c.nearest_in.result c.shards-shards.ensures h.ordered c.nearest_in.ensures (inv.5 all h) in
     let at = after_key all h.ordered c.runs.key c.in-Some.first (found ∙ c.in-Some.is) in
     (up_to g.M.Pages.entry all h.ordered done (c.args.key + 1) (c.args.last + 1) before (c.runs.key + 1) (c.args.last + 1) c.runs.written c.runs.buffer (omega (arith, low)) (omega (arith, high))
     (past_last all h.ordered c.runs.key c.args.last c.in-Some.first.0 c.if-last-first.true at.2) known.0 known.1).0
@@ -51,9 +51,9 @@ returns-then-last-first-clause-written g c = λ all h done before w is.
 pub run_above-count-requires-clause-first : goal.run_above-count-requires-clause-first
 run_above-count-requires-clause-first g c = λ all here.
     let inv = c.runs.invariant in
-    let h = subst (λ z. Contains g.M.MapShard.pairs c.args.lock.now.slots all z.1) inv.1 here in
+    let h = subst (λ z. Contains g.M.MapShard.pairs g.M.MapShard.limit c.args.lock.now all z.1) inv.1 here in
     stored_above all h.ordered c.runs.key c.in-Some.first
-    (found_near c.args.lock.now.slots all c.shards-shards.result (above c.runs.key) c.runs.next_pairs c.nearest_in.result c.shards-shards.ensures h.ordered c.nearest_in.ensures (inv.5 all h) ∙ c.in-Some.is)
+    (found_near c.args.lock.now.table.slots all c.shards-shards.result (above c.runs.key) c.runs.next_pairs c.nearest_in.result c.shards-shards.ensures h.ordered c.nearest_in.ensures (inv.5 all h) ∙ c.in-Some.is)
 
 pub returns-then-count-buffer-clause-written : goal.returns-then-count-buffer-clause-written
 returns-then-count-buffer-clause-written g c = λ all h done before w is.
@@ -64,10 +64,10 @@ returns-then-count-buffer-clause-written g c = λ all h done before w is.
     let from = c.in-Some.first.0 in let end = c.run_end-end.result in
     let run = c.run_end-end.ensures.from in
     let high = c.run_end-end.ensures.to in
-    let found = found_near c.args.lock.now.slots all c.shards-shards.result (above c.runs.key) c.runs.next_pairs c.nearest_in.result c.shards-shards.ensures h.ordered c.nearest_in.ensures (inv.5 all h) in
+    let found = found_near c.args.lock.now.table.slots all c.shards-shards.result (above c.runs.key) c.runs.next_pairs c.nearest_in.result c.shards-shards.ensures h.ordered c.nearest_in.ensures (inv.5 all h) in
     let at = after_key all h.ordered c.runs.key c.in-Some.first (found ∙ c.in-Some.is) in
     let up = at.0 in
-    let here = subst (λ z. Contains g.M.MapShard.pairs c.args.lock.now.slots all z.1) (sym inv.1) h in
+    let here = subst (λ z. Contains g.M.MapShard.pairs g.M.MapShard.limit c.args.lock.now all z.1) (sym inv.1) h in
     let listed = up_to g.M.Pages.entry all h.ordered done (c.args.key + 1) (c.args.last + 1) before (c.runs.key + 1) from c.runs.written c.runs.buffer (omega (arith, low)) (omega (arith, up)) at.2 known.0 known.1 in
     let more = run_up g.M.Pages.entry all h.ordered done (c.args.key + 1) (c.args.last + 1) before from end n after (omega (arith, low, up)) run
     (c.run_above-count.ensures.written all here (done ++ between all (c.args.key + 1) from) before listed.0 listed.1)
@@ -87,7 +87,7 @@ runs-smaller g c =
     let inv = c.runs.invariant in
     let all = c.requires.all.0 in
     let h = c.requires.all.1 in
-    let found = found_near c.args.lock.now.slots all c.shards-shards.result (above c.runs.key) c.runs.next_pairs c.nearest_in.result c.shards-shards.ensures h.ordered c.nearest_in.ensures (inv.5 all h) in
+    let found = found_near c.args.lock.now.table.slots all c.shards-shards.result (above c.runs.key) c.runs.next_pairs c.nearest_in.result c.shards-shards.ensures h.ordered c.nearest_in.ensures (inv.5 all h) in
     let at = after_key all h.ordered c.runs.key c.in-Some.first (found ∙ c.in-Some.is) in
     let up = at.0 in
     let run = c.run_end-end.ensures.from in
@@ -107,7 +107,7 @@ runs-preserved g c =
     let ne = c.if-count-buffer.false in
     let other = c.if-end-last.false in
     let first = c.requires.all.1 in
-    let first_found = found_near c.args.lock.now.slots c.requires.all.0 c.shards-shards.result (above c.runs.key) c.runs.next_pairs c.nearest_in.result c.shards-shards.ensures first.ordered c.nearest_in.ensures (inv.5 c.requires.all.0 first)
+    let first_found = found_near c.args.lock.now.table.slots c.requires.all.0 c.shards-shards.result (above c.runs.key) c.runs.next_pairs c.nearest_in.result c.shards-shards.ensures first.ordered c.nearest_in.ensures (inv.5 c.requires.all.0 first)
     in
     let first_at = after_key c.requires.all.0 first.ordered c.runs.key c.in-Some.first (first_found ∙ c.in-Some.is) in
     let up = first_at.0 in
@@ -120,17 +120,17 @@ runs-preserved g c =
       omega (arith, high, other),
       omega (arith, within, new, ne),
       λ all h.
-          let found = found_near c.args.lock.now.slots all c.shards-shards.result (above c.runs.key) c.runs.next_pairs c.nearest_in.result c.shards-shards.ensures h.ordered c.nearest_in.ensures (inv.5 all h) in
+          let found = found_near c.args.lock.now.table.slots all c.shards-shards.result (above c.runs.key) c.runs.next_pairs c.nearest_in.result c.shards-shards.ensures h.ordered c.nearest_in.ensures (inv.5 all h) in
           let at = after_key all h.ordered c.runs.key c.in-Some.first (found ∙ c.in-Some.is) in
-          let here = subst (λ z. Contains g.M.MapShard.pairs c.args.lock.now.slots all z.1) (sym inv.1) h in
-          above_next c.args.lock.now.slots all h.ordered c.shard_of_key.result c.runs.key from end c.runs.next_pairs c.run_above-count.result.1 (omega (arith, mine, many)) (few_shards c.args.lock.now.slots c.requires.shards)
+          let here = subst (λ z. Contains g.M.MapShard.pairs g.M.MapShard.limit c.args.lock.now all z.1) (sym inv.1) h in
+          above_next c.args.lock.now.table.slots all h.ordered c.shard_of_key.result c.runs.key from end c.runs.next_pairs c.run_above-count.result.1 (omega (arith, mine, many)) (few_shards c.args.lock.now.table.slots c.requires.shards)
           (λ k from_here to. subst (λ j. shard_of j k ≡ c.shard_of_key.result) many (c.run_end-end.ensures.one k from_here to ∙ sym c.shard_of_key.ensures.shard))
-          at.0 run (omega (arith, high, c.ranges.last.fits)) at.2 (inv.5 all h) (subst (λ s. c.run_above-count.result.1 ≡ pair_near (kept (keys_at (shard_of c.args.lock.now.slots) s) all) (above end)) (sym shard_is) (c.run_above-count.ensures.next all here)),
+          at.0 run (omega (arith, high, c.ranges.last.fits)) at.2 (inv.5 all h) (subst (λ s. c.run_above-count.result.1 ≡ pair_near (kept (keys_at (shard_of c.args.lock.now.table.slots) s) all) (above end)) (sym shard_is) (c.run_above-count.ensures.next all here)),
       λ all h done before w is.
           let known = inv.6 all h done before w is in
-          let found = found_near c.args.lock.now.slots all c.shards-shards.result (above c.runs.key) c.runs.next_pairs c.nearest_in.result c.shards-shards.ensures h.ordered c.nearest_in.ensures (inv.5 all h) in
+          let found = found_near c.args.lock.now.table.slots all c.shards-shards.result (above c.runs.key) c.runs.next_pairs c.nearest_in.result c.shards-shards.ensures h.ordered c.nearest_in.ensures (inv.5 all h) in
           let at = after_key all h.ordered c.runs.key c.in-Some.first (found ∙ c.in-Some.is) in
-          let here = subst (λ z. Contains g.M.MapShard.pairs c.args.lock.now.slots all z.1) (sym inv.1) h in
+          let here = subst (λ z. Contains g.M.MapShard.pairs g.M.MapShard.limit c.args.lock.now all z.1) (sym inv.1) h in
           let listed = up_to g.M.Pages.entry all h.ordered done (c.args.key + 1) (c.args.last + 1) before (c.runs.key + 1) from c.runs.written c.runs.buffer (omega (arith, low)) (omega (arith, up)) at.2 known.0 known.1 in
           let more = run_up g.M.Pages.entry all h.ordered done (c.args.key + 1) (c.args.last + 1) before from end n after (omega (arith, low, up)) run
           (c.run_above-count.ensures.written all here (done ++ between all (c.args.key + 1) from) before listed.0 listed.1)

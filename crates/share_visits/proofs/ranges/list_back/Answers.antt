@@ -33,7 +33,7 @@ returns-then-written-buffer-clause-written g c = λ all h.
     let high = inv.3 in
     let old = c.runs.auto.buffer in let new = c.page_rest-written.auto.buffer in
     let listed = inv.5 all h in
-    let here = subst (λ z. Contains g.M.MapShard.pairs c.args.lock.now.slots all z.1) (sym inv.1) h in
+    let here = subst (λ z. Contains g.M.MapShard.pairs g.M.MapShard.limit c.args.lock.now all z.1) (sym inv.1) h in
     let done = run_down g.M.Pages.entry all h.ordered [] c.args.start (c.args.last + 1) before first (to + 1) n after (omega (arith, run)) (omega (arith, high)) (c.page_rest-written.ensures.written all here (reverse (between all (to + 1) (c.args.last + 1))) before listed.0 listed.1) in
     elim c.then-written-buffer.branch [
       | then-written-buffer-via-then-written-buffer b ↦
@@ -63,8 +63,8 @@ returns-in_default-clause-written g c = λ all h.
     let again : first - 1 + 1 ≡ first = omega (arith, low, other) in
     let old = c.runs.auto.buffer in let new = c.page_rest-written.auto.buffer in
     let listed = inv.5 all h in
-    let here = subst (λ z. Contains g.M.MapShard.pairs c.args.lock.now.slots all z.1) (sym inv.1) h in
-    let there = subst (λ z. Contains g.M.MapShard.pairs c.args.lock.now.slots all z.1) (sym (c.nearest_in_run.ensures.same ∙ (c.page_rest-written.ensures.same ∙ inv.1))) h in
+    let here = subst (λ z. Contains g.M.MapShard.pairs g.M.MapShard.limit c.args.lock.now all z.1) (sym inv.1) h in
+    let there = subst (λ z. Contains g.M.MapShard.pairs g.M.MapShard.limit c.args.lock.now all z.1) (sym (c.nearest_in_run.ensures.same ∙ (c.page_rest-written.ensures.same ∙ inv.1))) h in
     let done = run_down g.M.Pages.entry all h.ordered [] c.args.start (c.args.last + 1) before first (to + 1) n after (omega (arith, run)) (omega (arith, high)) (c.page_rest-written.ensures.written all here (reverse (between all (to + 1) (c.args.last + 1))) before listed.0 listed.1) in
     subst (λ l. AreWritten g.M.Pages.entry l before c.list_under.result c.list_under.new.buffer) (behind_back all h.ordered c.args.start first (c.args.last + 1) low (omega (arith, run, high)))
     (c.list_under.ensures.written all there (reverse (between all first (c.args.last + 1))) before done
@@ -83,8 +83,8 @@ returns-then-next-start-clause-written g c = λ all h.
     let again : first - 1 + 1 ≡ first = omega (arith, low, other) in
     let old = c.runs.auto.buffer in let new = c.page_rest-written.auto.buffer in
     let listed = inv.5 all h in
-    let here = subst (λ z. Contains g.M.MapShard.pairs c.args.lock.now.slots all z.1) (sym inv.1) h in
-    let there = subst (λ z. Contains g.M.MapShard.pairs c.args.lock.now.slots all z.1) (sym (c.page_rest-written.ensures.same ∙ inv.1)) h in
+    let here = subst (λ z. Contains g.M.MapShard.pairs g.M.MapShard.limit c.args.lock.now all z.1) (sym inv.1) h in
+    let there = subst (λ z. Contains g.M.MapShard.pairs g.M.MapShard.limit c.args.lock.now all z.1) (sym (c.page_rest-written.ensures.same ∙ inv.1)) h in
     let done = run_down g.M.Pages.entry all h.ordered [] c.args.start (c.args.last + 1) before first (to + 1) n after (omega (arith, run)) (omega (arith, high)) (c.page_rest-written.ensures.written all here (reverse (between all (to + 1) (c.args.last + 1))) before listed.0 listed.1) in
     let at = before_key all h.ordered first (c.in-Some.next, c.in-Some.field-0-1) (subst (λ k. last_of (between all 0 k) ≡ Some (c.in-Some.next, c.in-Some.field-0-1)) again (c.in-Some.ensures.found all there)) in
     (down_to g.M.Pages.entry all h.ordered [] c.args.start (c.args.last + 1) before c.args.start first n after low (omega (arith, run, high))
@@ -97,7 +97,7 @@ runs-smaller g c =
     let bound = c.run_start-first.ensures.from in
     let other = c.if-first-start.false in
     let again : c.run_start-first.result - 1 + 1 ≡ c.run_start-first.result = omega (arith, bound, other) in
-    let there = subst (λ z. Contains g.M.MapShard.pairs c.args.lock.now.slots c.requires.all.0 z.1) (sym (c.page_rest-written.ensures.same ∙ inv.1)) c.requires.all.1 in
+    let there = subst (λ z. Contains g.M.MapShard.pairs g.M.MapShard.limit c.args.lock.now c.requires.all.0 z.1) (sym (c.page_rest-written.ensures.same ∙ inv.1)) c.requires.all.1 in
     let at = before_key c.requires.all.0 there.ordered c.run_start-first.result (c.in-Some.next, c.in-Some.field-0-1) (subst (λ k. last_of (between c.requires.all.0 0 k) ≡ Some (c.in-Some.next, c.in-Some.field-0-1)) again (c.in-Some.ensures.found c.requires.all.0 there)) in
     let up = at.0 in
     let run = c.run_start-first.ensures.to in
@@ -119,7 +119,7 @@ runs-preserved g c =
     let old = c.runs.auto.buffer in let new = c.page_rest-written.auto.buffer in
     let within = c.page_rest-written.ensures.within in
     let past = c.if-next-start.false in
-    let one = subst (λ z. Contains g.M.MapShard.pairs c.args.lock.now.slots c.requires.all.0 z.1) (sym (c.page_rest-written.ensures.same ∙ inv.1)) c.requires.all.1 in
+    let one = subst (λ z. Contains g.M.MapShard.pairs g.M.MapShard.limit c.args.lock.now c.requires.all.0 z.1) (sym (c.page_rest-written.ensures.same ∙ inv.1)) c.requires.all.1 in
     let up = (before_key c.requires.all.0 one.ordered first (c.in-Some.next, c.in-Some.field-0-1) (subst (λ k. last_of (between c.requires.all.0 0 k) ≡ Some (c.in-Some.next, c.in-Some.field-0-1)) again (c.in-Some.ensures.found c.requires.all.0 one))).0 in (
       c.in-Some.ensures.table ∙ (c.page_rest-written.ensures.table ∙ inv.0),
       c.in-Some.ensures.same ∙ (c.page_rest-written.ensures.same ∙ inv.1),
@@ -128,8 +128,8 @@ runs-preserved g c =
       omega (arith, within, new),
       λ all h.
           let listed = inv.5 all h in
-          let here = subst (λ z. Contains g.M.MapShard.pairs c.args.lock.now.slots all z.1) (sym inv.1) h in
-          let there = subst (λ z. Contains g.M.MapShard.pairs c.args.lock.now.slots all z.1) (sym (c.page_rest-written.ensures.same ∙ inv.1)) h in
+          let here = subst (λ z. Contains g.M.MapShard.pairs g.M.MapShard.limit c.args.lock.now all z.1) (sym inv.1) h in
+          let there = subst (λ z. Contains g.M.MapShard.pairs g.M.MapShard.limit c.args.lock.now all z.1) (sym (c.page_rest-written.ensures.same ∙ inv.1)) h in
           let done = run_down g.M.Pages.entry all h.ordered [] c.args.start (c.args.last + 1) before first (to + 1) n after (omega (arith, run)) (omega (arith, high)) (c.page_rest-written.ensures.written all here (reverse (between all (to + 1) (c.args.last + 1))) before listed.0 listed.1)
           in
           let at = before_key all h.ordered first (c.in-Some.next, c.in-Some.field-0-1) (subst (λ k. last_of (between all 0 k) ≡ Some (c.in-Some.next, c.in-Some.field-0-1)) again (c.in-Some.ensures.found all there)) in

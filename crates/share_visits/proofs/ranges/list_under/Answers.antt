@@ -33,7 +33,7 @@ returns-in_default-clause-written g c = λ all h done before w is.
     let high = inv.2 in
     let low = inv.3 in
     let known = inv.6 all h done before w is in
-    let found = found_near c.args.lock.now.slots all c.shards-shards.result (below c.runs.key) c.runs.next_pairs c.nearest_in.result c.shards-shards.ensures h.ordered c.nearest_in.ensures (inv.5 all h) in
+    let found = found_near c.args.lock.now.table.slots all c.shards-shards.result (below c.runs.key) c.runs.next_pairs c.nearest_in.result c.shards-shards.ensures h.ordered c.nearest_in.ensures (inv.5 all h) in
     (down_to g.M.Pages.entry all h.ordered done c.args.start c.args.key before c.args.start c.runs.key c.runs.written c.runs.buffer (omega (arith, low)) high
     (none_before all h.ordered c.runs.key c.args.start (found ∙ c.in_default.is)) known.0 known.1).0
 
@@ -43,7 +43,7 @@ returns-then-last-start-clause-written g c = λ all h done before w is.
     let high = inv.2 in
     let low = inv.3 in
     let known = inv.6 all h done before w is in
-    let found = found_near c.args.lock.now.slots all c.shards-shards.result (below c.runs.key) c.runs.next_pairs c.nearest_in.result c.shards-shards.ensures h.ordered c.nearest_in.ensures (inv.5 all h) in
+    let found = found_near c.args.lock.now.table.slots all c.shards-shards.result (below c.runs.key) c.runs.next_pairs c.nearest_in.result c.shards-shards.ensures h.ordered c.nearest_in.ensures (inv.5 all h) in
     let at = before_key all h.ordered c.runs.key c.in-Some.last (found ∙ c.in-Some.is) in
     (down_to g.M.Pages.entry all h.ordered done c.args.start c.args.key before c.args.start c.runs.key c.runs.written c.runs.buffer (omega (arith, low)) high
     (below_start all h.ordered c.runs.key c.args.start c.in-Some.last.0 c.if-last-start.true at.1) known.0 known.1).0
@@ -51,9 +51,9 @@ returns-then-last-start-clause-written g c = λ all h done before w is.
 pub run_below-count-requires-clause-last : goal.run_below-count-requires-clause-last
 run_below-count-requires-clause-last g c = λ all here.
     let inv = c.runs.invariant in
-    let h = subst (λ z. Contains g.M.MapShard.pairs c.args.lock.now.slots all z.1) inv.1 here in
+    let h = subst (λ z. Contains g.M.MapShard.pairs g.M.MapShard.limit c.args.lock.now all z.1) inv.1 here in
     stored_below all h.ordered c.runs.key c.in-Some.last
-    (found_near c.args.lock.now.slots all c.shards-shards.result (below c.runs.key) c.runs.next_pairs c.nearest_in.result c.shards-shards.ensures h.ordered c.nearest_in.ensures (inv.5 all h) ∙ c.in-Some.is)
+    (found_near c.args.lock.now.table.slots all c.shards-shards.result (below c.runs.key) c.runs.next_pairs c.nearest_in.result c.shards-shards.ensures h.ordered c.nearest_in.ensures (inv.5 all h) ∙ c.in-Some.is)
 
 pub returns-then-count-buffer-clause-written : goal.returns-then-count-buffer-clause-written
 returns-then-count-buffer-clause-written g c = λ all h done before w is.
@@ -64,10 +64,10 @@ returns-then-count-buffer-clause-written g c = λ all h done before w is.
     let to = c.in-Some.last.0 in let first = c.run_start-first.result in
     let run = c.run_start-first.ensures.to in
     let low = c.run_start-first.ensures.from in
-    let found = found_near c.args.lock.now.slots all c.shards-shards.result (below c.runs.key) c.runs.next_pairs c.nearest_in.result c.shards-shards.ensures h.ordered c.nearest_in.ensures (inv.5 all h) in
+    let found = found_near c.args.lock.now.table.slots all c.shards-shards.result (below c.runs.key) c.runs.next_pairs c.nearest_in.result c.shards-shards.ensures h.ordered c.nearest_in.ensures (inv.5 all h) in
     let at = before_key all h.ordered c.runs.key c.in-Some.last (found ∙ c.in-Some.is) in
     let down = at.0 in
-    let here = subst (λ z. Contains g.M.MapShard.pairs c.args.lock.now.slots all z.1) (sym inv.1) h in
+    let here = subst (λ z. Contains g.M.MapShard.pairs g.M.MapShard.limit c.args.lock.now all z.1) (sym inv.1) h in
     let listed = down_to g.M.Pages.entry all h.ordered done c.args.start c.args.key before (to + 1) c.runs.key c.runs.written c.runs.buffer (omega (arith, down)) high at.1 known.0 known.1 in
     let more = run_down g.M.Pages.entry all h.ordered done c.args.start c.args.key before first (to + 1) n after (omega (arith, run)) (omega (arith, down, high))
     (c.run_below-count.ensures.written all here (done ++ reverse (between all (to + 1) c.args.key)) before listed.0 listed.1)
@@ -87,7 +87,7 @@ runs-smaller g c =
     let inv = c.runs.invariant in
     let all = c.requires.all.0 in
     let h = c.requires.all.1 in
-    let found = found_near c.args.lock.now.slots all c.shards-shards.result (below c.runs.key) c.runs.next_pairs c.nearest_in.result c.shards-shards.ensures h.ordered c.nearest_in.ensures (inv.5 all h) in
+    let found = found_near c.args.lock.now.table.slots all c.shards-shards.result (below c.runs.key) c.runs.next_pairs c.nearest_in.result c.shards-shards.ensures h.ordered c.nearest_in.ensures (inv.5 all h) in
     let at = before_key all h.ordered c.runs.key c.in-Some.last (found ∙ c.in-Some.is) in
     let down = at.0 in
     let run = c.run_start-first.ensures.to in
@@ -107,7 +107,7 @@ runs-preserved g c =
     let ne = c.if-count-buffer.false in
     let other = c.if-first-start.false in
     let one = c.requires.all.1 in
-    let one_found = found_near c.args.lock.now.slots c.requires.all.0 c.shards-shards.result (below c.runs.key) c.runs.next_pairs c.nearest_in.result c.shards-shards.ensures one.ordered c.nearest_in.ensures (inv.5 c.requires.all.0 one) in
+    let one_found = found_near c.args.lock.now.table.slots c.requires.all.0 c.shards-shards.result (below c.runs.key) c.runs.next_pairs c.nearest_in.result c.shards-shards.ensures one.ordered c.nearest_in.ensures (inv.5 c.requires.all.0 one) in
     let one_at = before_key c.requires.all.0 one.ordered c.runs.key c.in-Some.last (one_found ∙ c.in-Some.is) in
     let down = one_at.0 in
     let many = c.shards-shards.ensures in
@@ -119,18 +119,18 @@ runs-preserved g c =
       omega (arith, low, other),
       omega (arith, within, new, ne),
       λ all h.
-          let found = found_near c.args.lock.now.slots all c.shards-shards.result (below c.runs.key) c.runs.next_pairs c.nearest_in.result c.shards-shards.ensures h.ordered c.nearest_in.ensures (inv.5 all h) in
+          let found = found_near c.args.lock.now.table.slots all c.shards-shards.result (below c.runs.key) c.runs.next_pairs c.nearest_in.result c.shards-shards.ensures h.ordered c.nearest_in.ensures (inv.5 all h) in
           let at = before_key all h.ordered c.runs.key c.in-Some.last (found ∙ c.in-Some.is) in
-          let here = subst (λ z. Contains g.M.MapShard.pairs c.args.lock.now.slots all z.1) (sym inv.1) h in
-          below_next c.args.lock.now.slots all h.ordered c.shard_of_key.result c.runs.key to first c.runs.next_pairs c.run_below-count.result.1 (omega (arith, mine, many)) (few_shards c.args.lock.now.slots c.requires.shards)
+          let here = subst (λ z. Contains g.M.MapShard.pairs g.M.MapShard.limit c.args.lock.now all z.1) (sym inv.1) h in
+          below_next c.args.lock.now.table.slots all h.ordered c.shard_of_key.result c.runs.key to first c.runs.next_pairs c.run_below-count.result.1 (omega (arith, mine, many)) (few_shards c.args.lock.now.table.slots c.requires.shards)
           (λ k from_here up_to. subst (λ j. shard_of j k ≡ c.shard_of_key.result) many
           (c.run_start-first.ensures.one k from_here up_to ∙ (sym (c.run_start-first.ensures.one to run (omega arith)) ∙ sym c.shard_of_key.ensures.shard)))
-          at.0 run at.1 (inv.5 all h) (subst (λ s. c.run_below-count.result.1 ≡ pair_near (kept (keys_at (shard_of c.args.lock.now.slots) s) all) (below first)) (sym shard_is) (c.run_below-count.ensures.next all here)),
+          at.0 run at.1 (inv.5 all h) (subst (λ s. c.run_below-count.result.1 ≡ pair_near (kept (keys_at (shard_of c.args.lock.now.table.slots) s) all) (below first)) (sym shard_is) (c.run_below-count.ensures.next all here)),
       λ all h done before w is.
           let known = inv.6 all h done before w is in
-          let found = found_near c.args.lock.now.slots all c.shards-shards.result (below c.runs.key) c.runs.next_pairs c.nearest_in.result c.shards-shards.ensures h.ordered c.nearest_in.ensures (inv.5 all h) in
+          let found = found_near c.args.lock.now.table.slots all c.shards-shards.result (below c.runs.key) c.runs.next_pairs c.nearest_in.result c.shards-shards.ensures h.ordered c.nearest_in.ensures (inv.5 all h) in
           let at = before_key all h.ordered c.runs.key c.in-Some.last (found ∙ c.in-Some.is) in
-          let here = subst (λ z. Contains g.M.MapShard.pairs c.args.lock.now.slots all z.1) (sym inv.1) h in
+          let here = subst (λ z. Contains g.M.MapShard.pairs g.M.MapShard.limit c.args.lock.now all z.1) (sym inv.1) h in
           let listed = down_to g.M.Pages.entry all h.ordered done c.args.start c.args.key before (to + 1) c.runs.key c.runs.written c.runs.buffer (omega (arith, down)) high at.1 known.0 known.1 in
           let more = run_down g.M.Pages.entry all h.ordered done c.args.start c.args.key before first (to + 1) n after (omega (arith, run)) (omega (arith, down, high))
           (c.run_below-count.ensures.written all here (done ++ reverse (between all (to + 1) c.args.key)) before listed.0 listed.1)

@@ -11,5 +11,5 @@ returns-clause-same g c =
 pub returns-clause-written : goal.returns-clause-written
 returns-clause-written g c = λ all h.
     let t = c.visit_one.ensures.visited all h in
-    listed_run g.M.MapShard.pairs g.M.Pages.entry c.args.lock.now.slots c.shard_of_key-shard.result all t.part c.args.start c.args.last c.args.back c.args.buffer.now c.visit_one.new.buffer c.visit_one.new.visit.written t.contains
+    listed_run g.M.MapShard.pairs g.M.Pages.entry c.args.lock.now.table.slots c.shard_of_key-shard.result all t.part c.args.start c.args.last c.args.back c.args.buffer.now c.visit_one.new.buffer c.visit_one.new.visit.written t.contains
     (λ k from to. c.requires.one k from to ∙ sym (c.shard_of_key-shard.ensures.shard ∙ ap (λ (n : ℕ). shard_of n c.args.start) c.shards.ensures)) t.visited.written

@@ -6,11 +6,11 @@ use Rattle.share_visits.proofs.whole.nearest_of_all.Goals as goal
 pub returns-clause-same : goal.returns-clause-same
 returns-clause-same g c =
     let P = g.M.MapShard.pairs in
-    let t = looked P c.args.lock.now.slots (Finds P) _ _ _ _ _ _ c.all_shards.result.now c.requires.all.0 c.requires.all.1 c.all_shards.ensures c.each.ensures.visited (λ v b i x w a y d. d.stays) in
+    let t = looked P g.M.MapShard.limit c.args.lock.now (Finds P) _ _ _ _ _ _ c.all_shards.result.now c.requires.all.0 c.requires.all.1 c.all_shards.ensures c.each.ensures.visited (λ v b i x w a y d. d.stays) in
     λ i. (c.each.ensures.view i, t.1 i)
 
 pub returns-clause-pair : goal.returns-clause-pair
 returns-clause-pair g c = λ all h.
     let P = g.M.MapShard.pairs in
-    let t = looked P c.args.lock.now.slots (Finds P) _ _ _ _ _ _ c.all_shards.result.now all h c.all_shards.ensures c.each.ensures.visited (λ v b i x w a y d. d.stays) in
-    found_all P c.args.lock.now.slots all _ h c.requires.shards c.args.near _ _ _ _ t.0 refl refl t.2
+    let t = looked P g.M.MapShard.limit c.args.lock.now (Finds P) _ _ _ _ _ _ c.all_shards.result.now all h c.all_shards.ensures c.each.ensures.visited (λ v b i x w a y d. d.stays) in
+    found_all P g.M.MapShard.limit c.args.lock.now all _ h c.requires.shards c.args.near _ _ _ _ t.0 refl refl t.2

@@ -3,4 +3,4 @@ use Rattle.std.proofs.Common.{◌≡◌}
 use Rattle.test_share_sharded.proofs.ends.filled.Given as goal
 
 abbrev pub invariant-loop-key : goal.invariant-loop-key
-invariant-loop-key l = l.guard.table ≡ l.map
+invariant-loop-key l = l.guard.table ≡ l.map.table

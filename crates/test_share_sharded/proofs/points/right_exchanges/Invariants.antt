@@ -3,4 +3,4 @@ use Rattle.std.proofs.Common.{◌≡◌}
 use Rattle.test_share_sharded.proofs.points.right_exchanges.Given as goal
 
 abbrev pub invariant-loop-old : goal.invariant-loop-old
-invariant-loop-old g l = l.guard.table ≡ l.map
+invariant-loop-old g l = l.guard.table ≡ l.map.table

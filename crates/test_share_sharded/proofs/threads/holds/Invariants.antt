@@ -3,4 +3,4 @@ use Rattle.std.proofs.Common.{◌≡◌}
 use Rattle.test_share_sharded.proofs.threads.holds.Given as goal
 
 abbrev pub invariant-loop : goal.invariant-loop
-invariant-loop g l = l.guard.table ≡ l.map
+invariant-loop g l = l.guard.table ≡ l.map.table

@@ -3,4 +3,4 @@ use Rattle.std.proofs.Common.{◌≡◌}
 use Rattle.test_share_sharded.proofs.threads.is_busy.Given as goal
 
 abbrev pub invariant-loop : goal.invariant-loop
-invariant-loop l = l.guard.table ≡ l.map
+invariant-loop l = l.guard.table ≡ l.map.table

@@ -3,4 +3,4 @@ use Rattle.std.proofs.Common.{◌≡◌}
 use Rattle.test_share_sharded.proofs.whole.right_rows.Given as goal
 
 abbrev pub invariant-loop-call : goal.invariant-loop-call
-invariant-loop-call g l = l.guard.table ≡ l.map
+invariant-loop-call g l = l.guard.table ≡ l.map.table

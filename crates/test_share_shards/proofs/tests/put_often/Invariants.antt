@@ -4,4 +4,4 @@ use Rattle.share_shards.specs.inner.Steps.{IsIdle}
 use Rattle.test_share_shards.proofs.tests.put_often.Given as goal
 
 abbrev pub invariant-loop-x : goal.invariant-loop-x
-invariant-loop-x l = (l.seat.table_id ≡ l.cells.lock) × IsIdle l.seat.me
+invariant-loop-x l = (l.seat.table_id ≡ l.cells.lock.table) × IsIdle l.seat.me

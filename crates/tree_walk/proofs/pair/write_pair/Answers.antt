@@ -1,5 +1,5 @@
 use Rattle.std.proofs.Common.{◌+◌, arith}
-use Rattle.tree_walk.proofs.EntryLaws.{writes_none_before, writes_none_after, writes_one}
+use Rattle.tree_walk.proofs.EntryLaws.{writes_none_before, writes_none_after, writes_within}
 use Rattle.tree_walk.proofs.pair.write_pair.Goals as goal
 
 pub returns-then-number-start : goal.returns-then-number-start
@@ -14,5 +14,5 @@ returns-then-number-last g c =
 
 pub returns : goal.returns
 returns g c =
-    let w = writes_one g.E.RangeEntry.entry c.args.start (c.args.last + 1) c.args.number c.args.value c.args.buffer.now c.args.count c.requires (omega (arith, c.if-number-start.false)) (omega (arith, c.if-number-last.false)) c.from_pair.result c.from_pair.ensures in
+    let w = writes_within g.E.RangeEntry.entry c.args.start (c.args.last + 1) c.args.number c.args.value c.args.buffer.now c.args.count c.requires (omega (arith, c.if-number-start.false)) (omega (arith, c.if-number-last.false)) (omega arith) c.write_one.new.buffer c.write_one.result c.write_one.ensures in
     record { up = w.up; down = w.down }

@@ -11,7 +11,7 @@ slot_mut-requires g t c =
     let slots : List (ℕ × Option g.row.S.Denot) = c.args.seat.now.me.1 in let last : ℕ = c.in-Some.last.now in let held = c.requires.slots in
     let ns = last_of_reverse c.args.shards.now c.in-Some.others.now last _ c.in-Some.ensures.cases.0 held.3 in
     let f = first_slot slots held.0 held.1 last (reverse c.in-Some.others.now) held.2 ns in
-    (c.requires.table ∙ sym c.self.view_is, (Some f.value, has_first slots last f.value _ f.slots_are))
+    (c.requires.table ∙ ap (λ l. l.table) (sym c.self.view_is), (Some f.value, has_first slots last f.value _ f.slots_are))
 
 pub unreachable-requires : goal.unreachable-requires
 unreachable-requires g t c =

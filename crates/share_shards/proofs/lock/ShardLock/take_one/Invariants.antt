@@ -1,6 +1,5 @@
--- The seat is as it was until the lock is won.
-use Rattle.std.proofs.Common.{◌≡◌}
+-- The limit is the lock's.
 use Rattle.share_shards.proofs.lock.ShardLock.take_one.Given as goal
 
-abbrev pub invariant-loop : goal.invariant-loop
-invariant-loop g l = (l.seat.table_id ≡ l.initial.seat.table_id) × (l.seat.me ≡ l.initial.seat.me)
+abbrev pub ghosts-try_one : goal.ghosts-try_one
+ghosts-try_one g a = record { limit = a.self.now.limit }

@@ -14,7 +14,7 @@ use Rattle.test_share_shards.proofs.cells.Cells.clear.Goals as goal
 
 pub release-requires-clause-may : goal.release-requires-clause-may
 release-requires-clause-may c =
-    let content = λ (s : Cell) (m : Pairs ℕ). m ≡ cell_pairs s.key s.value in let n = c.args.self.now.lock.slots in
+    let content = λ (s : Cell) (m : Pairs ℕ). m ≡ cell_pairs s.key s.value in let n = c.args.self.now.lock.table.slots in
     let m = c.args.seat.now.me in let m1 = c.take.new.seat.me in let m2 = c.each.new.seat.me in
     let took = c.if-not-take.ensures.took refl in
     let ns = took_all content (shard_of n) (0 ∷ 1 ∷ 2 ∷ 3 ∷ []) m m1 c.requires.idle took in
@@ -30,7 +30,7 @@ release-requires-clause-may c =
 
 pub returns-clause-made : goal.returns-clause-made
 returns-clause-made c _ =
-    let content = λ (s : Cell) (m : Pairs ℕ). m ≡ cell_pairs s.key s.value in let n = c.args.self.now.lock.slots in
+    let content = λ (s : Cell) (m : Pairs ℕ). m ≡ cell_pairs s.key s.value in let n = c.args.self.now.lock.table.slots in
     let took = c.if-not-take.ensures.took refl in
     let view = c.each.ensures.view in (
       pairs_of c.each.new.seat.me.0,

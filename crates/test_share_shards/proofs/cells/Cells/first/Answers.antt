@@ -15,7 +15,7 @@ use Rattle.test_share_shards.proofs.cells.Cells.first.Goals as goal
 pub release-requires-clause-may : goal.release-requires-clause-may
 release-requires-clause-may c =
     let content = λ (s : Cell) (m : Pairs ℕ). m ≡ cell_pairs s.key s.value in
-    let n = c.args.self.now.lock.slots in
+    let n = c.args.self.now.lock.table.slots in
     let m = c.args.seat.now.me in
     let m1 = c.take.new.seat.me in
     let m2 = c.each.new.seat.me in

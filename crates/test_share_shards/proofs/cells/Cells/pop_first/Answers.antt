@@ -16,7 +16,7 @@ use Rattle.test_share_shards.proofs.cells.Cells.pop_first.Goals as goal
 pub each-requires-2-clause-slots : goal.each-requires-2-clause-slots
 each-requires-2-clause-slots c =
     let content = λ (s : Cell) (m : Pairs ℕ). m ≡ cell_pairs s.key s.value in
-    let n = c.args.self.now.lock.slots in
+    let n = c.args.self.now.lock.table.slots in
     let m = c.args.seat.now.me in
     let m1 = c.take.new.seat.me in
     let took = c.if-not-take.ensures.took refl in
@@ -28,7 +28,7 @@ each-requires-2-clause-slots c =
 pub release-requires-clause-may : goal.release-requires-clause-may
 release-requires-clause-may c =
     let content = λ (s : Cell) (m : Pairs ℕ). m ≡ cell_pairs s.key s.value in
-    let n = c.args.self.now.lock.slots in
+    let n = c.args.self.now.lock.table.slots in
     let m = c.args.seat.now.me in
     let m1 = c.take.new.seat.me in
     let m2 = c.each-2.new.seat.me in

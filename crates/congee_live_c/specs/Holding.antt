@@ -1,0 +1,6 @@
+-- What contracts see of what a handle holds.
+use Rattle.live_law.specs.Known.{Known}
+
+-- what its guard knows
+pub record Holding : Type 0 where
+  pub guard : Known

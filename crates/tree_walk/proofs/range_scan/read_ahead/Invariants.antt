@@ -1,0 +1,5 @@
+use Rattle.std.proofs.Common.{◌≡◌}
+use Rattle.tree_walk.proofs.range_scan.read_ahead.Given as goal
+
+abbrev pub invariant-loop : goal.invariant-loop
+invariant-loop l = l.seen ≡ l.counter
