@@ -149,7 +149,8 @@ pub extern "C" fn congee_c_frozen_range(
     }
 }
 
-/// The same for keys from `start` to `last`, both included.
+/// Writes the first pairs with keys from `start` to `last`, both included, keys ascending, as many as there are or as
+/// fit, and answers how many. The rest of the buffer stays. Takes no memory.
 #[unsafe(no_mangle)]
 pub extern "C" fn congee_c_frozen_range_inclusive(
     frozen: &mut FrozenHandle,
@@ -171,7 +172,8 @@ pub extern "C" fn congee_c_frozen_range_inclusive(
     }
 }
 
-/// The same with keys descending: the last pairs of those.
+/// Writes the last pairs with keys from `start` to `last`, both included, keys descending, as many as there are or as
+/// fit, and answers how many. The rest of the buffer stays. Takes no memory.
 #[unsafe(no_mangle)]
 pub extern "C" fn congee_c_frozen_range_descending(
     frozen: &mut FrozenHandle,

@@ -131,7 +131,8 @@ pub extern "C" fn congee_c_range_inclusive(
     handle.as_mut().map.range_inclusive_of(start, last, buffer)
 }
 
-/// The same with keys descending: the last pairs of those, as many as there are or as fit.
+/// Writes the last pairs with keys from `start` to `last`, both included, keys descending, as many as there are or as
+/// fit, and answers how many. The rest of the buffer stays. Takes no memory.
 #[unsafe(no_mangle)]
 pub extern "C" fn congee_c_range_descending(
     handle: &mut Handle,

@@ -76,7 +76,8 @@ impl<P: Payload, A: Allocator> RawCongee<P, A> {
         before - self.value_count()
     }
 
-    /// The same, and hands each pair on once it is removed, keys ascending.
+    /// Removes the pairs with `start <= key < end`, each as a removal does, and hands each on once it is removed, keys
+    /// ascending. Never fails.
     pub fn extract_range<F, R: Receiver<P, F>>(&mut self, start: u64, end: u64, f: &mut F)
         requires { R.ready f.old }
         ensures calls { FoldsTo R.step f.old (between self.old.pairs start end) f.new }

@@ -85,7 +85,7 @@ impl<P: Payload, A: Allocator> RawCongee<P, A> {
         Some((key, payload))
     }
 
-    // The same, where no node shrinks: takes no memory.
+    // Removes the pair with the least key, and returns it. No node shrinks, so it takes no memory. Never fails.
     pub(crate) fn pop_first_in_place(&mut self) -> Option<(u64, P)>
         ensures pair { result ≡ first_of self.old.pairs }
         ensures removes { IfSome result (λ pair.

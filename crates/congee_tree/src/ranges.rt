@@ -31,7 +31,9 @@ impl<A: Allocator> RawCongee<u64, A> {
         self.range_inclusive(first, past - 1, buffer)
     }
 
-    /// The same for `start <= key <= last`, which can include the greatest key.
+    /// Writes the first pairs with `start <= key <= last`, which can include the greatest key, keys ascending, and
+    /// returns their number: all of them, or as many as the buffer has places for. The places after them are unchanged.
+    /// Takes no memory.
     pub fn range_inclusive<E: RangeEntry>(&self, start: u64, last: u64, buffer: &mut [E]) -> usize
         ensures count { result
             ≡ min (length buffer.old) (length (between self.now.pairs start (last + 1))) }
@@ -43,7 +45,8 @@ impl<A: Allocator> RawCongee<u64, A> {
         scan(nodes, root, start, last, buffer, 0)
     }
 
-    /// The same with keys descending: the last pairs with `start <= key <= last`.
+    /// Writes the last pairs with `start <= key <= last`, keys descending, and returns their number: all of them, or as
+    /// many as the buffer has places for. The places after them are unchanged. Takes no memory.
     pub fn range_descending<E: RangeEntry>(&self, start: u64, last: u64, buffer: &mut [E]) -> usize
         ensures count { result
             ≡ min (length buffer.old) (length (between self.now.pairs start (last + 1))) }

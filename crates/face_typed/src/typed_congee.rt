@@ -182,7 +182,9 @@ impl<K: Word, V: Word, A: Allocator, D: Drainer<K, V>> Congee<K, V, A, D> {
         self.range_of(start.into_u64(), end.into_u64(), buffer)
     }
 
-    /// The same for entries of another kind.
+    /// Writes the first pairs, as entries of the buffer's kind, with numbers of keys from `start` on and below `end` to
+    /// the buffer, ascending, as many as there are or as fit, and returns how many. The rest of the buffer is
+    /// unchanged. Takes no memory.
     pub fn range_of<E: RangeEntry>(&self, start: u64, end: u64, buffer: &mut [E]) -> usize
         ensures count { result
             ≡ min (length buffer.old) (length (between self.now.pairs start end)) }
@@ -205,7 +207,9 @@ impl<K: Word, V: Word, A: Allocator, D: Drainer<K, V>> Congee<K, V, A, D> {
         self.range_inclusive_of(start.into_u64(), last.into_u64(), buffer)
     }
 
-    /// The same for entries of another kind.
+    /// Writes the first pairs, as entries of the buffer's kind, with numbers of keys from `start` on and up to `last`
+    /// to the buffer, ascending, as many as there are or as fit, and returns how many. The rest of the buffer is
+    /// unchanged. Takes no memory.
     pub fn range_inclusive_of<E: RangeEntry>(
         &self,
         start: u64,
@@ -234,7 +238,9 @@ impl<K: Word, V: Word, A: Allocator, D: Drainer<K, V>> Congee<K, V, A, D> {
         self.range_descending_of(start.into_u64(), last.into_u64(), buffer)
     }
 
-    /// The same for entries of another kind.
+    /// Writes the last pairs, as entries of the buffer's kind, with numbers of keys from `start` on and up to `last` to
+    /// the buffer, descending, as many as there are or as fit, and returns how many. The rest of the buffer is
+    /// unchanged. Takes no memory.
     pub fn range_descending_of<E: RangeEntry>(
         &self,
         start: u64,

@@ -60,7 +60,8 @@ pub trait Ordered: Ascending {
             let entries = map (λ pair. E.entry pair.0 pair.1) found in
             buffer.new ≡ take result entries ++ drop result buffer.old };
 
-    /// The same for `start <= key <= last`.
+    /// Writes the first pairs with `start <= key <= last` to the buffer, ascending, and returns how many. The places
+    /// after them stay unchanged.
     fn pairs_to<E: RangeEntry>(&self, start: u64, last: u64, buffer: &mut [E]) -> usize
         ensures count { result
             ≡ min (length buffer.old) (length (between (pairs self.now) start (last + 1))) }

@@ -61,7 +61,7 @@ impl Guard {
         Map::new(alloc, limit)?.pin()
     }
 
-    /// The same with 64 shards, as `Map::sharded` makes it.
+    /// The first caller of a new, empty map in 64 shards, as `Map::sharded` makes it. It has seen nothing.
     pub fn first_sharded(alloc: Global, limit: u64) -> Result<Guard, OOMError>
         ensures { IfOk result (λ guard. (guard.seen ≡ []) × (guard.table.slots ≡ 64)) }
     {

@@ -75,8 +75,9 @@ impl Map {
         Map::of(alloc, limit, 1)
     }
 
-    /// The same with 64 shards, each a map under a lock of its own, for many threads. Keys that differ in their last
-    /// eight bits alone are of one shard. Each shard has a 64th of the limit, rounded down.
+    /// A new, empty map in 64 shards, each a map under a lock of its own, for many threads. Keys that differ in their
+    /// last eight bits alone are of one shard. The stated sizes of a shard's nodes are charged to a 64th of the limit
+    /// in bytes, rounded down. `OOMError` if memory is missing, or that is below the size of a shard's first node.
     pub fn sharded(alloc: Global, limit: u64) -> Result<Map, OOMError>
         ensures shards { IfOk result (λ map. map.table.slots ≡ 64) }
         ensures limit { IfOk result (λ map. map.limit ≡ limit / 64) }

@@ -329,7 +329,8 @@ impl<L: Ledger, K: Word, V: Word, M: Pages, D: Drainer<K, V>> Congee<L, K, V, M,
         self.range_of(rt, guard, start.into_u64(), end.into_u64(), buffer)
     }
 
-    /// The same for entries of another kind.
+    /// Writes pairs as `range` does, as entries of the buffer's kind, with numbers of keys from `start` on and below
+    /// `end`, and returns how many.
     pub fn range_of<R: Wait, E: RangeEntry>(
         &self,
         rt: &R,

@@ -170,7 +170,7 @@ impl<L: Ledger, P: Drop, T, M: Lent<P, T>> Raw<L, P, T, M> {
         Ok(computed_in(reply))
     }
 
-    /// The same, which tries again where memory is missing.
+    /// Calls the closure as `compute_if_present` does. Where memory is missing, it pauses and tries again.
     pub fn compute_if_present_always<R: Wait, F: FnMut(P) -> Option<P>>(
         &self,
         rt: &R,

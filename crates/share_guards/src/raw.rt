@@ -99,8 +99,8 @@ impl<L: Ledger, P: Drop, T, M: Lent<P, T>> Raw<L, P, T, M> {
         }
     }
 
-    /// The same, which waits while another thread is just being given a guard. `OOMError` if memory for its calls was
-    /// missing.
+    /// A guard that has seen nothing. Waits while another thread is just being given a guard. `OOMError` if memory for
+    /// its calls was missing.
     pub fn pin_waiting<R: Wait>(&self, rt: &R) -> Result<Guard<'_, L, P, T, M>, OOMError>
         ensures { IfOk result (λ guard. (guard.table ≡ self.now) × (guard.seen ≡ [])) }
     {
@@ -170,7 +170,7 @@ impl<L: Ledger, P: Drop, T, M: Lent<P, T>> Raw<L, P, T, M> {
         )
     }
 
-    /// The same for a call that can't return a refusal: it tries again.
+    /// Makes a call that can't return a refusal: where memory is missing, it pauses and tries again.
     pub fn call_always<R: Wait, B: Purse<L>, F, Q: Asks<P, F>, G: Gate>(
         &self,
         rt: &R,

@@ -305,7 +305,8 @@ pub fn call<L: Ledger, P: Drop, T, M: Lent<P, T>, R: Wait, B: Purse<L>, F, Q: As
     unreachable!()
 }
 
-/// The same for a call that can't return a refusal: it tries again.
+/// Makes a call that can't return a refusal, by as many attempts as it takes until it is decided. Where memory is missing,
+/// it pauses and tries again.
 pub fn call_always<
     L: Ledger,
     P: Drop,

@@ -45,7 +45,7 @@ pub fn hold_range<E: RangeEntry>(
     Some(written)
 }
 
-/// The same, with the pair at `last` too.
+/// Writes the first pairs with keys from `start` on and up to `last` to the buffer. `None` if a lock stays taken.
 pub fn hold_range_inclusive<E: RangeEntry>(
     lock: &MapLock,
     seat: &mut MapSeat,

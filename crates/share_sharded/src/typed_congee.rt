@@ -34,7 +34,7 @@ macro_rules! made {
     }};
 }
 
-// The same for a call that takes memory.
+// Makes a call that takes memory again, after a pause, while it is busy.
 macro_rules! made_or_refused {
     ($rt:expr, $call:expr) => {{
         let pause = Backoff::new();
@@ -177,7 +177,8 @@ impl<K: Word, V: Word> Congee<K, V> {
         }
     }
 
-    /// The same, which pauses where `try_get` is busy, and goes on.
+    /// The current value of the key, read back from its number. Pauses and tries again while a lock that it needs is
+    /// taken.
     pub fn get<R: Wait>(&self, rt: &R, guard: &mut Guard, key: &K) -> Option<V>
         requires map { guard.old.table ≡ self.now.table }
         ensures map { guard.new.table ≡ guard.old.table }
@@ -201,8 +202,8 @@ impl<K: Word, V: Word> Congee<K, V> {
         }
     }
 
-    /// The same, which pauses where `try_insert` is busy, and goes on. `OOMError` if memory was missing: then nothing has
-    /// changed.
+    /// Stores a value at the key, and returns the previous one, read back from its number. Pauses and tries again while
+    /// a lock that it needs is taken. `OOMError` if memory was missing: then nothing has changed.
     pub fn insert<R: Wait>(
         &self,
         rt: &R,
@@ -233,7 +234,8 @@ impl<K: Word, V: Word> Congee<K, V> {
         }
     }
 
-    /// The same, which pauses where `try_remove` is busy, and goes on.
+    /// Removes the key, and returns the previous value, read back from its number. Pauses and tries again while a lock
+    /// that it needs is taken.
     pub fn remove<R: Wait>(&self, rt: &R, guard: &mut Guard, key: &K) -> Option<V>
         requires map { guard.old.table ≡ self.now.table }
         ensures map { guard.new.table ≡ guard.old.table }
@@ -266,7 +268,9 @@ impl<K: Word, V: Word> Congee<K, V> {
         }
     }
 
-    /// The same, which pauses where `try_compare_exchange` is busy, and goes on.
+    /// If the number of `old` is stored at the key, stores `new`, or removes the key for `None`, and returns `Ok` with
+    /// `new` itself. Otherwise changes nothing, and returns `Err` with the current value, read back from its number, or
+    /// with `None` if the key is absent. Takes no memory. Pauses and tries again while a lock that it needs is taken.
     pub fn compare_exchange<R: Wait>(
         &self,
         rt: &R,

@@ -52,7 +52,7 @@ pub trait MapShard {
         ensures limit { limit self.new ≡ limit self.old };
 }
 
-/// The same, where pairs are listed as entries of a buffer.
+/// A map that is a shard, whose pairs are listed as entries of a buffer.
 pub trait Pages<E>: MapShard {
     ghost use Rattle.std.specs.Prelude.{ℕ};
 

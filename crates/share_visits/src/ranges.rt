@@ -83,7 +83,8 @@ fn page_at<E, M: Pages<E> + Drop>(
     page.written
 }
 
-// The same in what is left of a buffer in which so many are written. Returns how many are written then.
+// Writes pairs with keys from `start` to `last`, which are of one shard, ascending or descending, to what is left of a
+// buffer in which so many are written. Returns how many are written then.
 fn page_rest<E, M: Pages<E> + Drop>(
     lock: &PartLock<M>,
     seat: &mut PartSeat<M>,
@@ -155,7 +156,8 @@ fn run_above<E: Drop, M: Pages<E> + Drop>(
     (count, nearest_at(lock, seat, shard, Near::Above(end)))
 }
 
-// The same from its last pair on and down to the key `start`, descending.
+// Writes the pairs of a run from its last pair on and down to the key `start`, descending. Returns how many are written
+// then, and the shard's next pair below the run.
 fn run_below<E: Drop, M: Pages<E> + Drop>(
     lock: &PartLock<M>,
     seat: &mut PartSeat<M>,
@@ -243,7 +245,8 @@ fn list_above<E: Drop, M: Pages<E> + Drop>(
     }
 }
 
-// The same with the last pairs with keys below `key` and from `start` on, descending.
+// Writes the last pairs with keys below `key` and from `start` on, descending, run by run, with the next pair of each
+// shard at hand. Returns how many are written then.
 fn list_under<E: Drop, M: Pages<E> + Drop>(
     lock: &PartLock<M>,
     seat: &mut PartSeat<M>,
@@ -324,7 +327,8 @@ pub fn list<E: Drop, M: Pages<E> + Drop>(
     }
 }
 
-/// The same, with keys below `end`.
+/// Writes the first pairs with keys from `start` on and below `end` to the buffer, ascending, as many as there are or
+/// as fit, and returns how many.
 pub fn list_below<E: Drop, M: Pages<E> + Drop>(
     lock: &PartLock<M>,
     seat: &mut PartSeat<M>,

@@ -134,7 +134,7 @@ pub(crate) fn nearest_in_run<M: MapShard + Drop>(
     }
 }
 
-// The same, by a look into each shard.
+// The pair there, by a look into each shard.
 fn nearest_of_all<M: MapShard + Drop>(
     lock: &PartLock<M>,
     seat: &mut PartSeat<M>,

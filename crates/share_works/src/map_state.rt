@@ -40,7 +40,7 @@ pub trait MapState<N>: Protected<u64, N> {
         ensures { AreWritten E.entry (between (pairs self.now) start end)
             buffer.old result buffer.new };
 
-    /// The same, with the pair at `last` too.
+    /// Writes the first pairs with keys from `start` on and up to `last` to the buffer, ascending.
     fn page_inclusive<E: RangeEntry>(&self, start: u64, last: u64, buffer: &mut [E]) -> usize
         ensures { AreWritten E.entry (between (pairs self.now) start (last + 1))
             buffer.old result buffer.new };

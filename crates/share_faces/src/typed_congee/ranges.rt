@@ -42,7 +42,8 @@ impl<L: Ledger, K: Word, V: Word, M: Ordered, D: Drainer<K, V>> Congee<L, K, V, 
         self.range_recorded_of(rt, guard, start.into_u64(), end.into_u64(), buffer)
     }
 
-    /// The same for entries of another kind.
+    /// Writes pairs as `range_recorded` does, as entries of the buffer's kind, with numbers of keys from `start` on and
+    /// below `end`, and returns how many.
     pub fn range_recorded_of<R: Wait, E: RangeEntry>(
         &self,
         rt: &R,
@@ -76,7 +77,8 @@ impl<L: Ledger, K: Word, V: Word, M: Ordered, D: Drainer<K, V>> Congee<L, K, V, 
         self.range_inclusive_of(rt, guard, start.into_u64(), last.into_u64(), buffer)
     }
 
-    /// The same for entries of another kind.
+    /// Writes pairs as `range_inclusive` does, as entries of the buffer's kind, with numbers of keys from `start` on
+    /// and up to `last`, and returns how many.
     pub fn range_inclusive_of<R: Wait, E: RangeEntry>(
         &self,
         rt: &R,
@@ -111,7 +113,8 @@ impl<L: Ledger, K: Word, V: Word, M: Ordered, D: Drainer<K, V>> Congee<L, K, V, 
         self.range_descending_of(rt, guard, start.into_u64(), last.into_u64(), buffer)
     }
 
-    /// The same for entries of another kind.
+    /// Writes pairs as `range_descending` does, as entries of the buffer's kind, with numbers of keys from `start` on
+    /// and up to `last`, and returns how many.
     pub fn range_descending_of<R: Wait, E: RangeEntry>(
         &self,
         rt: &R,

@@ -28,8 +28,9 @@ impl<K: Word, V: Word> Congee<K, V> {
         }
     }
 
-    /// The same, which pauses where `try_add` is busy, and goes on. `OOMError` if memory was missing: then nothing has
-    /// changed.
+    /// Adds to the number of the key's value, modulo 2 to the 64. A new key gets the number itself. Returns the
+    /// previous value, read back from its number. Pauses and tries again while a lock that it needs is taken.
+    /// `OOMError` if memory was missing: then nothing has changed.
     pub fn add<R: Wait>(
         &self,
         rt: &R,
@@ -66,8 +67,9 @@ impl<K: Word, V: Word> Congee<K, V> {
         }
     }
 
-    /// The same, which pauses where `try_get_or_insert` is busy, and goes on. `OOMError` if memory was missing: then
-    /// nothing has changed.
+    /// Gives the key the value if it is absent, and stores a present value again. Returns the value that was present,
+    /// read back from its number. Pauses and tries again while a lock that it needs is taken. `OOMError` if memory was
+    /// missing: then nothing has changed.
     pub fn get_or_insert<R: Wait>(
         &self,
         rt: &R,

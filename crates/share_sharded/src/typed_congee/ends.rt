@@ -50,7 +50,8 @@ impl<K: Word, V: Word> Congee<K, V> {
         self.try_nearest(guard, Near::First)
     }
 
-    /// The same, which pauses where `try_first` is busy, and goes on.
+    /// The pair with the least key, each read back from its number. Pauses and tries again while a lock that it needs
+    /// is taken.
     pub fn first<R: Wait>(&self, rt: &R, guard: &mut Guard) -> Option<(K, V)>
         requires map { guard.old.table ≡ self.now.table }
         ensures map { guard.new.table ≡ guard.old.table }
@@ -71,7 +72,8 @@ impl<K: Word, V: Word> Congee<K, V> {
         self.try_nearest(guard, Near::Last)
     }
 
-    /// The same, which pauses where `try_last` is busy, and goes on.
+    /// The pair with the greatest key, each read back from its number. Pauses and tries again while a lock that it
+    /// needs is taken.
     pub fn last<R: Wait>(&self, rt: &R, guard: &mut Guard) -> Option<(K, V)>
         requires map { guard.old.table ≡ self.now.table }
         ensures map { guard.new.table ≡ guard.old.table }
@@ -92,7 +94,8 @@ impl<K: Word, V: Word> Congee<K, V> {
         self.try_nearest(guard, Near::Floor(key.into_u64()))
     }
 
-    /// The same, which pauses where `try_floor` is busy, and goes on.
+    /// The pair with the greatest key that is at most this one, each read back from its number. Pauses and tries again
+    /// while a lock that it needs is taken.
     pub fn floor<R: Wait>(&self, rt: &R, guard: &mut Guard, key: &K) -> Option<(K, V)>
         requires map { guard.old.table ≡ self.now.table }
         ensures map { guard.new.table ≡ guard.old.table }
@@ -113,7 +116,8 @@ impl<K: Word, V: Word> Congee<K, V> {
         self.try_nearest(guard, Near::Below(key.into_u64()))
     }
 
-    /// The same, which pauses where `try_below` is busy, and goes on.
+    /// The pair with the greatest key below this one, each read back from its number. Pauses and tries again while a
+    /// lock that it needs is taken.
     pub fn below<R: Wait>(&self, rt: &R, guard: &mut Guard, key: &K) -> Option<(K, V)>
         requires map { guard.old.table ≡ self.now.table }
         ensures map { guard.new.table ≡ guard.old.table }
@@ -134,7 +138,8 @@ impl<K: Word, V: Word> Congee<K, V> {
         self.try_nearest(guard, Near::Ceiling(key.into_u64()))
     }
 
-    /// The same, which pauses where `try_ceiling` is busy, and goes on.
+    /// The pair with the least key that is at least this one, each read back from its number. Pauses and tries again
+    /// while a lock that it needs is taken.
     pub fn ceiling<R: Wait>(&self, rt: &R, guard: &mut Guard, key: &K) -> Option<(K, V)>
         requires map { guard.old.table ≡ self.now.table }
         ensures map { guard.new.table ≡ guard.old.table }
@@ -155,7 +160,8 @@ impl<K: Word, V: Word> Congee<K, V> {
         self.try_nearest(guard, Near::Above(key.into_u64()))
     }
 
-    /// The same, which pauses where `try_above` is busy, and goes on.
+    /// The pair with the least key above this one, each read back from its number. Pauses and tries again while a lock
+    /// that it needs is taken.
     pub fn above<R: Wait>(&self, rt: &R, guard: &mut Guard, key: &K) -> Option<(K, V)>
         requires map { guard.old.table ≡ self.now.table }
         ensures map { guard.new.table ≡ guard.old.table }
@@ -179,7 +185,8 @@ impl<K: Word, V: Word> Congee<K, V> {
         }
     }
 
-    /// The same, which pauses where `try_pop_first` is busy, and goes on.
+    /// Removes the pair with the least key, and returns it, each read back from its number. Pauses and tries again
+    /// while a lock that it needs is taken.
     pub fn pop_first<R: Wait>(&self, rt: &R, guard: &mut Guard) -> Option<(K, V)>
         requires map { guard.old.table ≡ self.now.table }
         ensures map { guard.new.table ≡ guard.old.table }
@@ -202,7 +209,8 @@ impl<K: Word, V: Word> Congee<K, V> {
         }
     }
 
-    /// The same, which pauses where `try_pop_last` is busy, and goes on.
+    /// Removes the pair with the greatest key, and returns it, each read back from its number. Pauses and tries again
+    /// while a lock that it needs is taken.
     pub fn pop_last<R: Wait>(&self, rt: &R, guard: &mut Guard) -> Option<(K, V)>
         requires map { guard.old.table ≡ self.now.table }
         ensures map { guard.new.table ≡ guard.old.table }

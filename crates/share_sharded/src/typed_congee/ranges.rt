@@ -33,7 +33,9 @@ impl<K: Word, V: Word> Congee<K, V> {
         }
     }
 
-    /// The same, which pauses where `try_range` is busy, and goes on.
+    /// Writes the first pairs, by their numbers, with keys from `start` on and below `end` to the buffer, ascending, as
+    /// many as there are or as fit, and returns how many. The rest of the buffer is unchanged. Pauses and tries again
+    /// while a lock that it needs is taken.
     pub fn range<R: Wait, E: RangeEntry>(
         &self,
         rt: &R,
@@ -50,7 +52,9 @@ impl<K: Word, V: Word> Congee<K, V> {
         made!(rt, self.try_range(guard, start, end, buffer))
     }
 
-    /// As `try_range`, with the pair at `last` too, which can be the greatest key.
+    /// Writes the first pairs, by their numbers, with keys from `start` on and up to `last`, which can be the greatest
+    /// key, to the buffer, ascending, as many as there are or as fit, and returns how many. The rest of the buffer is
+    /// unchanged.
     pub fn try_range_inclusive<E: RangeEntry>(
         &self,
         guard: &mut Guard,
@@ -70,7 +74,9 @@ impl<K: Word, V: Word> Congee<K, V> {
         }
     }
 
-    /// The same, which pauses where `try_range_inclusive` is busy, and goes on.
+    /// Writes the first pairs, by their numbers, with keys from `start` on and up to `last`, which can be the greatest
+    /// key, to the buffer, ascending, as many as there are or as fit, and returns how many. The rest of the buffer is
+    /// unchanged. Pauses and tries again while a lock that it needs is taken.
     pub fn range_inclusive<R: Wait, E: RangeEntry>(
         &self,
         rt: &R,
@@ -108,7 +114,9 @@ impl<K: Word, V: Word> Congee<K, V> {
         }
     }
 
-    /// The same, which pauses where `try_range_descending` is busy, and goes on.
+    /// Writes the last pairs, by their numbers, with keys from `start` on and up to `last` to the buffer, descending,
+    /// as many as there are or as fit, and returns how many. The rest of the buffer is unchanged. Pauses and tries
+    /// again while a lock that it needs is taken.
     pub fn range_descending<R: Wait, E: RangeEntry>(
         &self,
         rt: &R,

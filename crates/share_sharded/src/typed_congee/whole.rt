@@ -30,7 +30,8 @@ impl<K: Word, V: Word> Congee<K, V> {
         }
     }
 
-    /// The same, which pauses where `try_value_count` is busy, and goes on.
+    /// How many pairs there are: 2 to the 64 at most. Takes constant time. Pauses and tries again while a lock that it
+    /// needs is taken.
     pub fn value_count<R: Wait>(&self, rt: &R, guard: &mut Guard) -> u128
         requires map { guard.old.table ≡ self.now.table }
         ensures map { guard.new.table ≡ guard.old.table }
@@ -53,7 +54,7 @@ impl<K: Word, V: Word> Congee<K, V> {
         }
     }
 
-    /// The same, which pauses where `try_is_empty` is busy, and goes on.
+    /// Whether there is no pair. Pauses and tries again while a lock that it needs is taken.
     pub fn is_empty<R: Wait>(&self, rt: &R, guard: &mut Guard) -> bool
         requires map { guard.old.table ≡ self.now.table }
         ensures map { guard.new.table ≡ guard.old.table }
@@ -84,7 +85,8 @@ impl<K: Word, V: Word> Congee<K, V> {
         }
     }
 
-    /// The same, which pauses where `try_charged` is busy, and goes on.
+    /// The sum in bytes of the stated sizes of the map's nodes, which is within its limit. Takes constant time. Pauses
+    /// and tries again while a lock that it needs is taken.
     pub fn charged<R: Wait>(&self, rt: &R, guard: &mut Guard) -> u128
         requires map { guard.old.table ≡ self.now.table }
         ensures map { guard.new.table ≡ guard.old.table }
@@ -108,7 +110,8 @@ impl<K: Word, V: Word> Congee<K, V> {
         }
     }
 
-    /// The same, which pauses where `try_clear` is busy, and goes on.
+    /// Removes all pairs. Of the nodes each shard's root stays. Pauses and tries again while a lock that it needs is
+    /// taken.
     pub fn clear<R: Wait>(&self, rt: &R, guard: &mut Guard)
         requires map { guard.old.table ≡ self.now.table }
         ensures map { guard.new.table ≡ guard.old.table }
