@@ -6,12 +6,12 @@ ghost use Rattle.std.specs.Prelude.{◌≡◌, ◌≢◌, ◌⊎◌, None, Some,
 ghost use Rattle.live_law.specs.Known.{MadeCall};
 ghost use Rattle.live_updates.specs.Refusals.{FoundNone};
 ghost use Rattle.live_updates.specs.Entries.{swapped};
-ghost use Rattle.live_computes.specs.Entries.{inserted_with, sum_with};
+ghost use Rattle.live_updates.specs.ClosureEntries.{inserted_with, sum_with};
 ghost use Rattle.congee_live_c.specs.Answer.{oom, busy};
 
 use crate::handle::Handle;
 use crate::{BUSY, OOM};
-use live_calls::map::{Busy, Refusal};
+use live_growth::map::{Busy, Refusal};
 use std::alloc::Global;
 
 /// Adds a number to the key's value, modulo 2 to the 64, so a sum past `u64::MAX` wraps. A new key gets the number as its

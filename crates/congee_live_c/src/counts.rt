@@ -7,13 +7,13 @@
 
 ghost use Rattle.std.specs.Prelude.{◌≡◌, ◌⊎◌, ℕ, pos};
 ghost use Rattle.live_scans.specs.Scans.{GaveUp};
-ghost use Rattle.live_counts.specs.Counts.{HasCounted};
+ghost use Rattle.live_scans.specs.Counts.{HasCounted};
 ghost use Rattle.congee_live_c.specs.Answer.{busy, capped};
 
 use crate::BUSY;
 use crate::handle::Handle;
-use live_calls::map::Busy;
-use live_counts::counts;
+use live_growth::map::Busy;
+use live_scans::counts;
 
 /// Writes to `out` how many pairs there are, which saturates at `u64::MAX`, and answers 0, or answers `BUSY`. Reads all nodes
 /// that have values. Takes no memory and no lock.

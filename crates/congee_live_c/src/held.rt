@@ -4,7 +4,7 @@
 
 ghost use Rattle.std.specs.Prelude.{◌≡◌, [], IfOk};
 
-use live_calls::map::Guard;
+use live_growth::map::Guard;
 use live_pool::pool::Pool;
 use std::alloc::{AllocError, Global};
 use std::marker::Model;

@@ -15,7 +15,7 @@
 ghost use Rattle.std.specs.Prelude.{◌≡◌, ◌≢◌, ◌⊎◌, ◌≤◌, [], Some, None, Ok, Err, IfSome, IsSome, pos};
 ghost use Rattle.live_law.specs.Views.{ask, got, inserted};
 ghost use Rattle.live_law.specs.Known.{MadeCall};
-ghost use Rattle.live_calls.specs.Meetings.{SeenMore};
+ghost use Rattle.live_reads.specs.Meetings.{SeenMore};
 ghost use Rattle.live_updates.specs.Refusals.{FoundNone};
 ghost use Rattle.live_updates.specs.Entries.{removed, swapped};
 ghost use Rattle.congee_live_c.specs.Answer.{oom, busy};
@@ -33,8 +33,8 @@ mod room;
 
 pub use handle::Handle;
 use held::Held;
-use live_calls::map::{Busy, Refusal};
-use live_order::page::RangeEntry;
+use live_growth::map::{Busy, Refusal};
+use live_layout::page::RangeEntry;
 pub use room::Room;
 use std::alloc::Global;
 

@@ -3,7 +3,7 @@
 //! Tested in `tools/c-library`.
 
 ghost use Rattle.std.specs.Prelude.{◌≡◌, ◌≢◌, ◌⊎◌, None, IfSome, IsSome, pos};
-ghost use Rattle.live_calls.specs.Meetings.{SeenMore};
+ghost use Rattle.live_reads.specs.Meetings.{SeenMore};
 ghost use Rattle.congee_live_c.specs.Answer.{oom};
 
 use crate::OOM;

@@ -6,14 +6,14 @@
 //! Tested in `tools/c-library`.
 
 ghost use Rattle.std.specs.Prelude.{◌≡◌, ◌≢◌, ◌⊎◌, ◌+◌, None, Some, Ok, Err, pos};
-ghost use Rattle.live_calls.specs.declared.map.Busy.{Busy};
+ghost use Rattle.live_growth.specs.declared.map.Busy.{Busy};
 ghost use Rattle.live_scans.specs.Scans.{GaveUp, HasNext};
 ghost use Rattle.congee_live_c.specs.Answer.{busy};
 ghost use Rattle.congee_live_c.specs.Pairs.{pair_of};
 
 use crate::handle::Handle;
 use crate::{BUSY, Pair};
-use live_calls::map::Busy;
+use live_growth::map::Busy;
 use live_scans::scans;
 
 /// Writes the pair with the least key to `pair` and answers 1, or answers 0 for an empty map, or `BUSY`. Takes no memory and

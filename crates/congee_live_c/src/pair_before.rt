@@ -7,14 +7,14 @@
 
 ghost use Rattle.std.specs.Prelude.{◌≡◌, ◌≢◌, ◌⊎◌, ◌+◌, ◌^◌, None, Some, pos};
 ghost use Rattle.live_scans.specs.Scans.{GaveUp};
-ghost use Rattle.live_floors.specs.Floors.{HasBefore};
+ghost use Rattle.live_scans.specs.Floors.{HasBefore};
 ghost use Rattle.congee_live_c.specs.Answer.{busy};
 ghost use Rattle.congee_live_c.specs.Pairs.{pair_of};
 
 use crate::Pair;
 use crate::handle::Handle;
 use crate::next_pair::answer_pair;
-use live_floors::floors;
+use live_scans::floors;
 
 /// Writes the pair with the greatest key to `pair` and answers 1, or answers 0 for an empty map, or `BUSY`.
 /// Takes no memory and no lock.

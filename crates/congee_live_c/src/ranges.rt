@@ -7,14 +7,14 @@
 //! Tested in `tools/c-library`.
 
 ghost use Rattle.std.specs.Prelude.{◌≡◌, ◌⊎◌, ◌+◌, ◌≤◌, length, take, pos};
-ghost use Rattle.live_order.specs.Page.{pairs_of};
+ghost use Rattle.live_layout.specs.Page.{pairs_of};
 ghost use Rattle.live_scans.specs.Scans.{GaveUp, HasPage};
 ghost use Rattle.congee_live_c.specs.Answer.{busy};
 ghost use Rattle.congee_live_c.specs.Pairs.{pair_of};
 
 use crate::handle::Handle;
 use crate::{BUSY, Pair};
-use live_calls::map::Busy;
+use live_growth::map::Busy;
 use live_scans::scans;
 
 /// Writes pairs with keys from `start` on and below `end`, keys ascending, as many as there are or as fit, and to `out` how

@@ -6,7 +6,7 @@ use Rattle.share_laws.specs.Keys.{AllLeave, finds, inserts}
 use Rattle.share_rule.specs.History.{Entry, IsHistory}
 use Rattle.live_law.specs.Known.{Known, MadeCall}
 use Rattle.live_law.specs.Views.{ask, got, inserted}
-use Rattle.live_calls.specs.Meetings.{SeenMore}
+use Rattle.live_reads.specs.Meetings.{SeenMore}
 use Rattle.example_live.specs.Callers.{HandedOver}
 
 -- a number is read back as itself

@@ -6,12 +6,12 @@ use Rattle.spec_map.specs.Map.{Pairs, Rises}
 use Rattle.word_book.specs.Book.{Book, Name}
 use Rattle.live_nodes.specs.Seats.{Hold, hold, SeatView, IsIn}
 use Rattle.live_nodes.specs.Plays.{hold_of}
-use Rattle.live_rows.specs.Rows.{nth, draft_of, MayHold}
-use Rattle.live_encodes.specs.Encodes.{Encodes}
-use Rattle.live_order.specs.Page.{AreListed, pairs_of}
+use Rattle.live_nodes.specs.Rows.{nth, draft_of, MayHold}
+use Rattle.live_layout.specs.Encodes.{Encodes}
+use Rattle.live_layout.specs.Page.{AreListed, pairs_of}
 use Rattle.live_law.specs.Levels.{up, Shape, place_at}
 use Rattle.live_law.specs.Views.{View, Own, locked}
-use Rattle.live_calls.proofs.Locks.{hold_head}
+use Rattle.live_growth.proofs.Locks.{hold_head}
 use Rattle.live_copies.specs.inner.Told.{IsContent, first_of, end_of, HasPairs}
 use Rattle.live_copies.specs.inner.Locks.{HasTaken, Takes}
 use Rattle.live_copies.proofs.Told.{leaf_pairs}

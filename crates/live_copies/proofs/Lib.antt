@@ -6,3 +6,6 @@ pub mod Copying
 pub mod Locking
 pub mod Finding
 pub mod Walking
+pub mod Alike
+pub mod Inserted
+pub mod Listed

@@ -2,13 +2,13 @@
 use Rattle.std.proofs.Common.{◌≡◌, ℕ, ◌+◌, List, [], ◌∷◌, ◌++◌, drop, length, refl, sym, ap, ◌∙◌, subst, inr}
 use Rattle.word_book.specs.Book.{Book, Name}
 use Rattle.live_nodes.specs.Seats.{Place, Hold, hold, SeatView, IsIn, Each}
-use Rattle.live_rows.specs.Rows.{AreOf}
+use Rattle.live_nodes.specs.Rows.{AreOf}
 use Rattle.live_law.specs.Levels.{Spot, place_at}
 use Rattle.live_law.specs.Views.{View, Own, locked, rest_of}
 use Rattle.live_law.specs.Tree.{IsApart}
-use Rattle.live_calls.specs.Ways.{AreNamed, Keeps}
-use Rattle.live_calls.specs.Holds.{Alike, HasLocked}
-use Rattle.live_calls.proofs.Again.{Beside}
+use Rattle.live_reads.specs.Ways.{AreNamed, Keeps}
+use Rattle.live_growth.specs.Holds.{Alike, HasLocked}
+use Rattle.live_growth.proofs.Again.{Beside}
 use Rattle.live_copies.specs.declared.locks.Lock.{Lock}
 use Rattle.live_copies.specs.inner.Locks.{Grip, own_of, holds_of, AreNoted, IsGrip, AreGrips, HasLocks, IsTop, Knows, Grows, HasTaken}
 

@@ -10,7 +10,7 @@ use Rattle.spec_map.proofs.JoinLaws.{Rises-append, lookup-above, lookup-append_l
 use Rattle.share_rule.specs.History.{IsHistory}
 use Rattle.live_nodes.specs.Nodes.{Content}
 use Rattle.live_nodes.specs.Seats.{IsIn}
-use Rattle.live_encodes.specs.Encodes.{Encodes, AreOfKind, IsBelow, IsWord, payload_of}
+use Rattle.live_layout.specs.Encodes.{Encodes, AreOfKind, IsBelow, IsWord, payload_of}
 use Rattle.live_law.specs.Levels.{up, digit, Shape, name_of, Covers, way, Spot}
 use Rattle.live_law.specs.Views.{Own, locked, View}
 use Rattle.live_law.proofs.Plans.{joined, way-key, root-top}

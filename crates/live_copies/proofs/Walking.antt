@@ -5,10 +5,10 @@ use Rattle.spec_map.specs.Map.{Pairs}
 use Rattle.word_book.specs.Book.{Book, Name}
 use Rattle.live_nodes.specs.Nodes.{Content}
 use Rattle.live_nodes.specs.Seats.{SeatView, IsIn}
-use Rattle.live_encodes.specs.Encodes.{Encodes}
+use Rattle.live_layout.specs.Encodes.{Encodes}
 use Rattle.live_law.specs.Levels.{up, digit, place_at}
 use Rattle.live_law.specs.Views.{View, Own, locked}
-use Rattle.live_calls.specs.Ways.{Names, Keeps}
+use Rattle.live_reads.specs.Ways.{Names, Keeps}
 use Rattle.live_copies.specs.declared.children.Child.{Child}
 use Rattle.live_copies.specs.declared.locks.Lock.{Lock}
 use Rattle.live_copies.specs.inner.Noted.{HasNoted, HasNamed}

@@ -24,8 +24,8 @@ use Rattle.live_law.specs.Tree.{IsMap, IsCurrent, IsUnder, IsSpot, IsOwn, IsLock
 use Rattle.live_law.proofs.Histories.{sees_all}
 use Rattle.live_law.proofs.Looks.{with_view, at_leaf, at_inner}
 use Rattle.live_law.proofs.Plans.{at_home, digit-low, joined, missed, none_there, same_name}
-use Rattle.live_calls.specs.Ways.{KnowsTrunk, Keeps}
-use Rattle.live_calls.proofs.Views.{head_read, learned_keeps, reading, reading_keeps, trunk_taken}
+use Rattle.live_reads.specs.Ways.{KnowsTrunk, Keeps}
+use Rattle.live_reads.proofs.Views.{head_read, learned_keeps, reading, reading_keeps, trunk_taken}
 use Rattle.live_updates.proofs.Rising.{history_ascends}
 use Rattle.live_copies.specs.inner.Told.{TellsUnder, Tells}
 use Rattle.live_copies.specs.inner.Whole.{HasWhole, LearnsWhole}

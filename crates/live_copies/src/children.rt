@@ -1,14 +1,14 @@
 //! The children of a node, as a reader finds them.
 ghost use Rattle.std.specs.Prelude.{◌≡◌, ◌<◌, ◌≤◌, IfSome};
 ghost use Rattle.live_law.specs.Levels.{up, digit};
-ghost use Rattle.live_calls.specs.Ways.{Names, Sights, Keeps};
+ghost use Rattle.live_reads.specs.Ways.{Names, Sights, Keeps};
 ghost use Rattle.live_copies.specs.inner.Children.{IsChild, IsFound};
 
-use live_calls::sight::{Sight, enter, meet};
-use live_calls::way::{Nodes, Pass, byte_at, look, open};
-use live_encodes::form::{form_below, slot_below};
-use live_order::nearest::nearest;
-use live_rows::rows::Row;
+use live_layout::form::{form_below, slot_below};
+use live_layout::nearest::nearest;
+use live_nodes::rows::Row;
+use live_reads::sight::{Sight, enter, meet};
+use live_reads::way::{Nodes, Pass, byte_at, look, open};
 use live_scans::keys::upper;
 use std::marker::Brand;
 

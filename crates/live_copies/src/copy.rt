@@ -1,7 +1,7 @@
 //! The call. It is made by a guard of the map. It begins with an entry of its own in the history, and enters nothing more.
 ghost use Rattle.std.specs.Prelude.{◌≡◌, nat_eq, [], IfOk, OnErr};
 ghost use Rattle.share_rule.specs.History.{IsHistory};
-ghost use Rattle.live_calls.specs.Ways.{KnowsTrunk, Names, Keeps};
+ghost use Rattle.live_reads.specs.Ways.{KnowsTrunk, Names, Keeps};
 ghost use Rattle.live_scans.specs.Scans.{GaveUp};
 ghost use Rattle.live_scans.specs.inner.Moments.{SeesMore};
 ghost use Rattle.live_copies.specs.Copies.{HasCopied};
@@ -10,8 +10,8 @@ ghost use Rattle.live_copies.specs.inner.Locks.{HasLocks, Knows};
 use crate::locks::{Work, unlock_all};
 use crate::walk::take;
 use crate::whole::whole;
-use live_calls::map::{Congee, Guard, Refusal};
-use live_calls::way::{Nodes, Pass};
+use live_growth::map::{Congee, Guard, Refusal};
+use live_reads::way::{Nodes, Pass};
 use live_scans::seek::start;
 use std::alloc::Global;
 use std::marker::Brand;

@@ -1,16 +1,16 @@
 //! A leaf is locked, and its pairs are copied.
 ghost use Rattle.std.specs.Prelude.{◌≡◌, IfOk};
-ghost use Rattle.live_calls.specs.Ways.{Names};
+ghost use Rattle.live_reads.specs.Ways.{Names};
 ghost use Rattle.live_copies.specs.inner.Locks.{HasLocks, Grows, HasTaken, Takes};
 
 use crate::locks::{Work, lock_noted};
-use live_calls::map::Refusal;
-use live_calls::way::{Cell, Nodes, Pass};
-use live_cells::words::Drafted;
-use live_encodes::form::{form_below, words_in};
+use live_growth::map::Refusal;
 use live_law::law::{Levels, Mine};
-use live_order::page::{Part, fill};
-use live_rows::rows::Held;
+use live_layout::form::{form_below, words_in};
+use live_layout::page::{Part, fill};
+use live_layout::words::Drafted;
+use live_nodes::rows::Held;
+use live_reads::way::{Cell, Nodes, Pass};
 
 // Copies the pairs of the leaf that was locked last.
 fn copy_leaf(

@@ -4,7 +4,9 @@
 //! no node of the map can change. At that moment the caller learns the whole history, and that it leads to these pairs. Then
 //! all nodes are unlocked.
 //!
-//! Tested in `test_live_calls`.
+//! `moves` moves all pairs by that: into a snapshot, a map with one owner, and back from that.
+//!
+//! Tested in `test_live_calls` and `test_live_faces`.
 #![tactic(auto)]
 
 mod children;
@@ -12,6 +14,8 @@ pub mod copy;
 mod leaf;
 mod lesson;
 mod locks;
+pub mod moves;
 mod names;
+pub mod numbers;
 mod walk;
 mod whole;

@@ -1,16 +1,16 @@
 //! The nodes that a copy has locked, one after the other.
 ghost use Rattle.std.specs.Prelude.{◌≡◌, ◌%◌, ◌<◌, ◌^◌, [], drop, List, IfOk, IfSome, IfNone};
 ghost use Rattle.live_law.specs.Views.{rest_of};
-ghost use Rattle.live_calls.specs.Ways.{Names, AreNamed};
-ghost use Rattle.live_calls.specs.Holds.{Alike, HasLocked};
+ghost use Rattle.live_reads.specs.Ways.{Names, AreNamed};
+ghost use Rattle.live_growth.specs.Holds.{Alike, HasLocked};
 ghost use Rattle.live_copies.specs.declared.locks.Lock.{Lock};
 ghost use Rattle.live_copies.specs.inner.Locks.{IsTop, HasLocks, Grows, HasTaken};
 
-use live_calls::held::lock_node;
-use live_calls::map::Refusal;
-use live_calls::way::{Cell, Nodes, Pass, words_at};
+use live_growth::held::lock_node;
+use live_growth::map::Refusal;
 use live_law::law::{Levels, Mine, Same};
 use live_nodes::node;
+use live_reads::way::{Cell, Nodes, Pass, words_at};
 
 // How often a node is tried that a writer is busy at.
 const TRIES: u32 = 256;

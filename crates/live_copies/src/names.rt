@@ -1,12 +1,12 @@
 //! The children of a node that is locked, by their names.
 ghost use Rattle.std.specs.Prelude.{◌≡◌, ℕ, ◌<◌, length, slice_index, IsTrue};
-ghost use Rattle.live_cells.specs.Words.{Looks};
-ghost use Rattle.live_encodes.specs.Encodes.{words_of};
+ghost use Rattle.live_layout.specs.Words.{Looks};
+ghost use Rattle.live_layout.specs.Encodes.{words_of};
 ghost use Rattle.live_copies.specs.inner.Noted.{HasNamed};
 
-use live_cells::words::{Draft, Drafted};
-use live_encodes::form::{slot_below, words_in};
-use live_encodes::search::find;
+use live_layout::form::{slot_below, words_in};
+use live_layout::search::find;
+use live_layout::words::{Draft, Drafted};
 use node_base::base_node::NodeType;
 
 // Whether the child under a byte has this name. 0 is for none.

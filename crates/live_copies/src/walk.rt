@@ -1,7 +1,7 @@
 //! All nodes below one are locked, and then itself.
 ghost use Rattle.std.specs.Prelude.{◌≡◌, ℕ, ◌≤◌, IfOk};
 ghost use Rattle.spec_map.specs.Map.{Pairs};
-ghost use Rattle.live_calls.specs.Ways.{Names};
+ghost use Rattle.live_reads.specs.Ways.{Names};
 ghost use Rattle.live_copies.specs.inner.Noted.{HasNoted};
 ghost use Rattle.live_copies.specs.inner.Locks.{HasLocks, Grows, place_above, HasTold, Takes};
 
@@ -9,11 +9,11 @@ use crate::children::next_child;
 use crate::leaf::take_leaf;
 use crate::locks::{Work, lock_noted};
 use crate::names::has_children;
-use live_calls::map::Refusal;
-use live_calls::way::{Nodes, Pass};
-use live_encodes::form::form_below;
+use live_growth::map::Refusal;
 use live_law::law::{Levels, Mine};
-use live_rows::rows::Held;
+use live_layout::form::form_below;
+use live_nodes::rows::Held;
+use live_reads::way::{Nodes, Pass};
 
 // Locks a node whose children are locked, if it still has these, and no other.
 fn close<'a>(

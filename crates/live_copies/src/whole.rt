@@ -1,12 +1,12 @@
 //! The moment of a copy.
 ghost use Rattle.std.specs.Prelude.{◌≡◌, IsTrue, IsFalse};
-ghost use Rattle.live_calls.specs.Ways.{KnowsTrunk, Keeps};
+ghost use Rattle.live_reads.specs.Ways.{KnowsTrunk, Keeps};
 ghost use Rattle.live_copies.specs.inner.Whole.{HasWhole};
 
 use crate::lesson::Whole;
-use live_calls::way::{Nodes, Pass};
 use live_law::law::{Asks, Levels, Mine};
 use live_nodes::node;
+use live_reads::way::{Nodes, Pass};
 
 /// Whether the whole history was seen at this moment, at which the map has what the locked nodes have. `false` where the trunk
 /// is locked, and then nothing is learnt.

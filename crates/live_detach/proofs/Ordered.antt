@@ -3,7 +3,7 @@ use Rattle.std.proofs.Common.{ℕ, ◌+◌, ◌<◌, ◌≤◌, List, [], ◌∷
 use Rattle.node_base.specs.Form.{limit}
 use Rattle.node_table.specs.TableNode.{TableNode, Child}
 use Rattle.spec_map.specs.Map.{Rises}
-use Rattle.live_encodes.specs.Encodes.{Stands, HasChildren, Encodes}
+use Rattle.live_layout.specs.Encodes.{Stands, HasChildren, Encodes}
 
 stands_rise : (low high : ℕ) (es : List (ℕ × ℕ)) (fs : List (ℕ × Child ℕ)) → Stands es fs → Rises low high es → Rises low high fs
 stands_rise low high [] [] s r = tt

@@ -6,12 +6,12 @@ use Rattle.node_base.specs.declared.base_node.NodeType.TheVariants.{N4, N16, N48
 use Rattle.word_book.specs.Book.{Book, Name}
 use Rattle.live_nodes.specs.Nodes.{Content}
 use Rattle.live_nodes.specs.Seats.{Place, SeatView, IsIn}
-use Rattle.live_encodes.specs.Encodes.{counted, most}
+use Rattle.live_layout.specs.Encodes.{counted, most}
 use Rattle.live_law.specs.Levels.{Spot}
 use Rattle.live_law.specs.Views.{View}
-use Rattle.live_calls.specs.Holds.{Alike, HasRest}
-use Rattle.live_calls.specs.Rooms.{HasGrown}
-use Rattle.live_calls.specs.declared.insert.Stand.{Stand}
+use Rattle.live_growth.specs.Holds.{Alike, HasRest}
+use Rattle.live_growth.specs.Rooms.{HasGrown}
+use Rattle.live_reads.specs.declared.descend.Stand.{Stand}
 use Rattle.live_detach.specs.Two.{HoldsTwo, LeadsTwo}
 use Rattle.live_detach.proofs.Twos.{held_on}
 

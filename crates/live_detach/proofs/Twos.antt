@@ -7,20 +7,20 @@ use Rattle.live_nodes.specs.Acts as acts
 use Rattle.live_nodes.specs.Plays as plays
 use Rattle.live_nodes.specs.Plays.{hold_of}
 use Rattle.live_nodes.specs.Calls.{MayFree}
-use Rattle.live_rows.specs.Rows.{AreOf}
+use Rattle.live_nodes.specs.Rows.{AreOf}
 use Rattle.node_base.specs.Form.{limit}
 use Rattle.node_base.specs.declared.base_node.NodeType.{NodeType}
 use Rattle.node_table.specs.TableNode.{TableNode, Child}
 use Rattle.spec_map.specs.Map.{lookup}
-use Rattle.live_encodes.specs.Encodes.{Encodes, IsBelow, counted, with_child}
-use Rattle.live_encodes.proofs.StandLaws.{encodes-counted}
+use Rattle.live_layout.specs.Encodes.{Encodes, IsBelow, counted, with_child}
+use Rattle.live_layout.proofs.StandLaws.{encodes-counted}
 use Rattle.live_law.specs.Levels.{digit, Spot, place_at}
 use Rattle.live_law.specs.Views.{View}
 use Rattle.live_law.specs.Tree.{IsMap}
-use Rattle.live_calls.specs.Ways.{AreNamed, Keeps}
-use Rattle.live_calls.specs.Holds.{HasLocked, HasRest}
-use Rattle.live_calls.proofs.Locks.{hold_head}
-use Rattle.live_calls.proofs.Pairs.{Pair, change_done, at_result}
+use Rattle.live_reads.specs.Ways.{AreNamed, Keeps}
+use Rattle.live_growth.specs.Holds.{HasLocked, HasRest}
+use Rattle.live_growth.proofs.Locks.{hold_head}
+use Rattle.live_growth.proofs.Pairs.{Pair, change_done, at_result}
 use Rattle.live_detach.specs.Two.{IsHeld, HoldsTwo}
 use Rattle.live_detach.proofs.Unlinks.{Loses}
 

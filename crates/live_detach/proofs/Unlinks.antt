@@ -11,7 +11,7 @@ use Rattle.spec_map.proofs.MapLaws.{lookup-without_same, lookup-without_other}
 use Rattle.live_nodes.proofs.Frames.{each_map, put_at, put_here, put_else}
 use Rattle.live_nodes.specs.Nodes.{Content, at, Node, node, node_at}
 use Rattle.live_nodes.specs.Acts as acts
-use Rattle.live_encodes.specs.Encodes.{words_of, Encodes, IsBelow as IsChild, with_child}
+use Rattle.live_layout.specs.Encodes.{words_of, Encodes, IsBelow as IsChild, with_child}
 use Rattle.live_law.specs.Levels.{digit, Shape, name_of, way, Spot}
 use Rattle.live_law.specs.Views.{View, view_of, Watch, Own, locked, fresh, outgrown, trunk}
 use Rattle.live_law.specs.Tree.{Plan, home_of, IsFree, LeadsTo, IsUnder, IsHouse, Skips, IsCurrent, NamesRoot, IsSpot, IsMet, IsBound, NoLater, IsWatched, IsLocked, IsOwn, AreAlive, IsTree, IsMap}

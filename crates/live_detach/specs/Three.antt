@@ -4,11 +4,11 @@ use Rattle.node_base.specs.Form.{limit, smaller_form}
 use Rattle.node_base.specs.declared.base_node.NodeType.TheVariants.{N4}
 use Rattle.word_book.specs.Book.{Book, Name}
 use Rattle.live_nodes.specs.Seats.{SeatView}
-use Rattle.live_encodes.specs.Encodes.{counted, most}
+use Rattle.live_layout.specs.Encodes.{counted, most}
 use Rattle.live_law.specs.Views.{View}
-use Rattle.live_calls.specs.Ways.{AreNamed}
-use Rattle.live_calls.specs.Holds.{HasRegained}
-use Rattle.live_calls.specs.declared.insert.Stand.{Stand}
+use Rattle.live_reads.specs.Ways.{AreNamed}
+use Rattle.live_growth.specs.Holds.{HasRegained}
+use Rattle.live_reads.specs.declared.descend.Stand.{Stand}
 use Rattle.live_detach.specs.Two.{LeadsTwo}
 
 -- The third has the next smaller form, and room for the children of the lower one.

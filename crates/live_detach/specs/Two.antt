@@ -4,12 +4,12 @@ use Rattle.node_table.specs.TableNode.{TableNode}
 use Rattle.word_book.specs.Book.{Book, Name}
 use Rattle.live_nodes.specs.Nodes.{Content}
 use Rattle.live_nodes.specs.Seats.{hold, SeatView, IsIn}
-use Rattle.live_rows.specs.Rows.{AreOf}
-use Rattle.live_encodes.specs.Encodes.{words_of, Encodes}
+use Rattle.live_nodes.specs.Rows.{AreOf}
+use Rattle.live_layout.specs.Encodes.{words_of, Encodes}
 use Rattle.live_law.specs.Levels.{digit, Spot, name_of, Covers, place_at}
 use Rattle.live_law.specs.Views.{View, locked}
-use Rattle.live_calls.specs.Holds.{HasWordOf}
-use Rattle.live_calls.specs.declared.insert.Stand.{Stand}
+use Rattle.live_growth.specs.Holds.{HasWordOf}
+use Rattle.live_reads.specs.declared.descend.Stand.{Stand}
 
 -- a node that is locked: its words, and the word by which it was free
 pub record IsHeld (v : SeatView View) (b : Book) (words : List Name) (free : ℕ) (a : Spot) (c : Content) : Type 0 where

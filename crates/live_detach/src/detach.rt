@@ -1,21 +1,21 @@
 //! Nodes without children are taken out.
 ghost use Rattle.std.specs.Prelude.{◌≡◌, ◌<◌, ◌≤◌, [], IfOk, IfSome, IfNone};
-ghost use Rattle.live_calls.specs.Ways.{AreNamed, Keeps};
-ghost use Rattle.live_calls.specs.Holds.{Alike, HasRest};
-ghost use Rattle.live_calls.specs.Stands.{Stands};
+ghost use Rattle.live_reads.specs.Ways.{AreNamed, Keeps};
+ghost use Rattle.live_growth.specs.Holds.{Alike, HasRest};
+ghost use Rattle.live_reads.specs.Stands.{Stands};
 ghost use Rattle.live_detach.specs.Two.{HoldsTwo, LeadsTwo, PartsTwo};
 
 use crate::law::Unlink;
 use crate::narrow::{Fill, fill_of};
-use live_calls::held::{lock_node, unlock_same};
-use live_calls::insert::Stand;
-use live_calls::way::{Cell, Nodes, Pass, byte_at, words_at};
-use live_calls::widen::leads_to;
-use live_encodes::change::take;
-use live_encodes::form::form_below;
+use live_growth::held::{lock_node, unlock_same};
+use live_growth::widen::leads_to;
 use live_law::law::{Levels, Mine, Same};
+use live_layout::change::take;
+use live_layout::form::form_below;
 use live_nodes::node;
-use live_rows::rows::Held;
+use live_nodes::rows::Held;
+use live_reads::descend::Stand;
+use live_reads::way::{Cell, Nodes, Pass, byte_at, words_at};
 
 /// The words by which two locked nodes were free: one, and the one above it.
 #[derive(Clone, Copy)]

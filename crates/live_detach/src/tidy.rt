@@ -1,13 +1,13 @@
 //! The way of a key is tidied, which was removed.
 ghost use Rattle.std.specs.Prelude.{◌≡◌, [], IfOk};
-ghost use Rattle.live_calls.specs.Ways.{KnowsTrunk, Sights, Keeps};
-ghost use Rattle.live_calls.specs.Calls.{IsReady};
+ghost use Rattle.live_reads.specs.Ways.{KnowsTrunk, Sights, Keeps};
+ghost use Rattle.live_growth.specs.Calls.{IsReady};
 
 use crate::detach::{Stays, Taken, detach};
 use crate::narrow::{Fill, narrow_way};
-use live_calls::insert::{End, descend};
-use live_calls::link::Room;
-use live_calls::way::{Nodes, Pass};
+use live_growth::link::Room;
+use live_reads::descend::{End, descend};
+use live_reads::way::{Nodes, Pass};
 
 /// Takes the node out at which a key's way ends, if it has no children and isn't the root.
 pub fn detach_one(nodes: &Nodes, key: u64, pass: &mut Pass) -> Result<Taken, Stays>

@@ -1,8 +1,8 @@
 -- A closure that was called before.
 use Rattle.std.proofs.Common.{◌≡◌, ℕ, Option, subst}
 use Rattle.live_law.specs.Known.{Known}
-use Rattle.live_computes.specs.Closures.{Reaches}
-use Rattle.live_computes.proofs.Reached.{last_on}
+use Rattle.live_updates.specs.Closures.{Reaches}
+use Rattle.live_updates.proofs.Reached.{last_on}
 use Rattle.live_faces.specs.Returned.{ReturnsInserted}
 
 module _ {V F : Type 0} (of_number : ℕ → V) (step : F → Option ℕ → ℕ → F → Type 0) where

@@ -7,9 +7,9 @@ use Rattle.share_rule.specs.History.{Entry}
 use Rattle.live_law.specs.Known.{Known, MadeCall}
 use Rattle.live_updates.specs.Entries.{swapped}
 use Rattle.live_scans.specs.Scans.{HasNext}
-use Rattle.live_floors.specs.Floors.{HasBefore}
-use Rattle.live_computes.specs.Closures.{EndsWithCall}
-use Rattle.live_computes.specs.Entries.{inserted_with}
+use Rattle.live_scans.specs.Floors.{HasBefore}
+use Rattle.live_updates.specs.Closures.{EndsWithCall}
+use Rattle.live_updates.specs.ClosureEntries.{inserted_with}
 use Rattle.live_copies.specs.Copies.{HasCopied}
 
 -- A CALL, by a guard that knew k

@@ -5,7 +5,7 @@ ghost use Rattle.std.specs.Prelude.{◌≡◌, ◌≢◌, ◌-◌, ◌≤◌, �
 ghost use Rattle.live_updates.specs.Refusals.{FoundNone, Refused};
 ghost use Rattle.std.specs.Option.{option_map};
 ghost use Rattle.live_law.specs.Views.{ask, got, inserted};
-ghost use Rattle.live_calls.specs.Meetings.{SeenMore};
+ghost use Rattle.live_reads.specs.Meetings.{SeenMore};
 ghost use Rattle.live_faces.specs.Returned.{ReturnsOld};
 
 mod computed;
@@ -18,7 +18,7 @@ mod scans;
 mod updates;
 
 use crossbeam_utils::Backoff;
-pub use live_calls::map::{Busy, Guard, Refusal};
+pub use live_growth::map::{Busy, Guard, Refusal};
 use live_pool::pool::Pool;
 use spec_map::error::OOMError;
 use spec_map::traits::Word;

@@ -13,7 +13,7 @@ use Rattle.live_nodes.proofs.Frames.{each_in, put_at}
 use Rattle.live_nodes.specs.Nodes.{Content, at, Node, node, node_at}
 use Rattle.live_nodes.specs.Seats.{Each, IsIn}
 use Rattle.live_nodes.specs.Acts as acts
-use Rattle.live_encodes.specs.Encodes.{words_of, Encodes, IsBelow, IsWord, with_child, in_form}
+use Rattle.live_layout.specs.Encodes.{words_of, Encodes, IsBelow, IsWord, with_child, in_form}
 use Rattle.live_law.specs.Levels.{up, digit, Shape, name_of, Covers, way, Spot}
 use Rattle.live_law.specs.Views.{View, view_of, watch, Own, locked, fresh, outgrown, trunk, Ask}
 use Rattle.live_law.specs.Tree.{Plan, home_of, HasPrefix, LeadsTo, IsUnder, IsCurrent, NamesRoot, IsSpot, LeadsDown, IsWatched, IsLocked, IsFresh, IsOutgrown, IsOwn, IsTree, IsMap, Links, leads_on, left_over, again, leads_again, left_again, LinksAgain}

@@ -16,7 +16,7 @@ use Rattle.live_nodes.specs.Nodes.{Content, Node, node}
 use Rattle.live_nodes.specs.Seats.{Each, IsIn, Agree, Place, Read}
 use Rattle.live_nodes.specs.Rule.{PlaceFits, ReadFits}
 use Rattle.live_nodes.specs.Acts as acts
-use Rattle.live_encodes.specs.Encodes.{Encodes, IsBelow as HasBelow, IsWord}
+use Rattle.live_layout.specs.Encodes.{Encodes, IsBelow as HasBelow, IsWord}
 use Rattle.live_law.specs.Levels.{up, digit, Shape, name_of, Covers, way, Spot, spot, place_at}
 use Rattle.live_law.specs.Views.{View, view_of, Own, locked, Watch, watch, watching, Ask, got}
 use Rattle.live_law.specs.Tree.{Plan, home_of, IsFree, LeadsTo, HasValue, IsUnder, IsCurrent, IsSpot, IsMet, LeadsDown, IsBound, IsWatched, Knows, IsLocked, IsOwn, AreNodes, IsTree, IsMap, GoesTo, HasAnswer, Gets, Finds, Misses, Looks, IsOfKind, IsNow, IsOf, LearnsNode, LearnsMiss, LearnsHead, LearnsBelow}

@@ -11,9 +11,9 @@ use Rattle.spec_map.specs.Map.{Pairs, lookup}
 use Rattle.live_nodes.proofs.Frames.{each_map, node_before, node_last, one_more}
 use Rattle.live_nodes.specs.Nodes.{Content, at, Node, node, node_at}
 use Rattle.live_nodes.specs.Acts as acts
-use Rattle.live_cells.specs.Words as cells
-use Rattle.live_cells.specs.Head.{IsHead}
-use Rattle.live_encodes.specs.Encodes.{words_of, long_for, HasChildren, Encodes}
+use Rattle.live_layout.specs.Words as cells
+use Rattle.live_layout.specs.Head.{IsHead}
+use Rattle.live_layout.specs.Encodes.{words_of, long_for, HasChildren, Encodes}
 use Rattle.live_law.specs.Levels.{up, Shape, name_of, way, IsBelow, Spot, spot}
 use Rattle.live_law.specs.Views.{View, with_own, Watch, Own, locked, fresh, outgrown, trunk, Ask}
 use Rattle.live_law.specs.Tree.{Plan, home_of, IsFree, LeadsTo, IsUnder, IsCurrent, NamesRoot, IsSpot, IsMet, IsBound, NoLater, IsWatched, IsOwn, AreNodes, AreAlive, IsSettled, IsTree, IsMap, IsMade}

@@ -4,7 +4,7 @@ use mathlib.Core.Logic.{dite}
 use native.Mathlib.Decide.{ℕ_discrete}
 use Rattle.spec_map.specs.Map.{Pairs, lookup}
 use Rattle.live_nodes.specs.Nodes.{Content, Node}
-use Rattle.live_encodes.proofs.StandLaws.{few_forms}
+use Rattle.live_layout.proofs.StandLaws.{few_forms}
 use Rattle.live_law.specs.Levels.{up, digit, Shape, name_of, Covers, way, IsBelow, Spot}
 use Rattle.live_law.specs.Tree.{Plan, home_of, IsSpot, AreNodes, IsTree}
 

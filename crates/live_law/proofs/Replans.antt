@@ -7,7 +7,7 @@ use Rattle.node_table.specs.TableNode.{Child}
 use Rattle.node_table.specs.declared.child.Child.TheVariants.{Payload, Node as Below}
 use Rattle.live_nodes.proofs.Frames.{each_map, put_at, put_here, put_else}
 use Rattle.live_nodes.specs.Nodes.{Content, Node, node}
-use Rattle.live_encodes.specs.Encodes.{words_of}
+use Rattle.live_layout.specs.Encodes.{words_of}
 use Rattle.live_law.specs.Levels.{Shape, name_of, way, IsBelow, Spot, spot}
 use Rattle.live_law.specs.Views.{View, Watch, Own, locked, fresh, outgrown, trunk}
 use Rattle.live_law.specs.Tree.{Plan, home_of, LeadsTo, IsCurrent, IsSpot, IsMet, IsWatched, IsOutgrown, IsOwn, AreNodes, AreAlive, IsSettled, IsTree, IsMap}

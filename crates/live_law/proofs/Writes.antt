@@ -14,7 +14,7 @@ use Rattle.live_nodes.proofs.Frames.{each_map, below, put_at, put_here, put_else
 use Rattle.live_nodes.specs.Nodes.{Content, Node, node, node_at}
 use Rattle.live_nodes.specs.Seats.{Each}
 use Rattle.live_nodes.specs.Acts as acts
-use Rattle.live_encodes.specs.Encodes.{words_of, Encodes, with_child}
+use Rattle.live_layout.specs.Encodes.{words_of, Encodes, with_child}
 use Rattle.live_law.specs.Levels.{up, digit, Shape, Covers, Spot}
 use Rattle.live_law.specs.Views.{View, view_of, Own, locked, outgrown, trunk, rest_of, content_of, Ask, inserted}
 use Rattle.live_law.specs.Tree.{Plan, home_of, IsFree, HasValue, IsUnder, IsCurrent, IsMet, IsOwn, IsLocked, IsOutgrown, IsApart, IsTree, IsMap, StaysSame, Inserts}

@@ -5,7 +5,7 @@ use Rattle.std.specs.Prelude.{◌≡◌, ℕ, zero, suc, ◌+◌, ◌-◌, ◌*�
 use Rattle.node_base.specs.Form.{form_place}
 use Rattle.node_base.specs.declared.base_node.NodeType.{NodeType}
 use Rattle.live_nodes.specs.Seats.{Place, place}
-use Rattle.live_encodes.specs.Encodes.{words_of}
+use Rattle.live_layout.specs.Encodes.{words_of}
 
 -- the key without so many of its lowest bytes
 abbrev pub up : ℕ → ℕ → ℕ

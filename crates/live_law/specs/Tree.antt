@@ -10,7 +10,7 @@ use Rattle.share_rule.specs.History.{Entry, entries_of, IsHistory, IsLegalHistor
 use Rattle.share_rule.specs.inner.Rule.{HasSeen}
 use Rattle.live_nodes.specs.Nodes.{Content, at, Node, node}
 use Rattle.live_nodes.specs.Seats.{Place, Each, IsIn, Agree}
-use Rattle.live_encodes.specs.Encodes.{words_of, Encodes}
+use Rattle.live_layout.specs.Encodes.{words_of, Encodes}
 use Rattle.live_law.specs.Levels.{up, digit, Shape, name_of, Covers, way, IsBelow, Spot, spot, place_at}
 use Rattle.live_law.specs.Views.{Own, locked, fresh, outgrown, trunk, Watch, watch, View, view_of, with_own, watching, number_of, rest_of, content_of, Ask, got, inserted}
 

@@ -4,3 +4,4 @@ pub mod Rule
 pub mod Acts
 pub mod Plays
 pub mod Calls
+pub mod Rows

@@ -11,7 +11,13 @@
 //! - nodes that it holds, with what it has written there
 //! - its *room*: words for new nodes, which no other seat writes
 //!
-//! Tested in `test_live_nodes`.
+//! The searches and changes of `live_layout` reach a node's words by the types in `rows`.
+//!
+//! - `Row`: a node is read without a lock. Its version word was taken before, and is checked afterwards
+//! - `Held`: the seat has locked the node
+//! - `Fresh`: the first words of the seat's room become a node
+//!
+//! Tested in `test_live_words`.
 #![tactic(auto)]
 
 pub mod heap;
@@ -19,3 +25,4 @@ pub mod law;
 pub mod node;
 pub mod plays;
 pub mod room;
+pub mod rows;

@@ -4,9 +4,9 @@ use Rattle.live_nodes.specs.Seats.{place, SeatView, IsIn, Each}
 use Rattle.live_nodes.proofs.Frames.{each_map}
 use Rattle.live_law.specs.Levels.{place_at}
 use Rattle.live_law.specs.Views.{View}
-use Rattle.live_calls.specs.Ways.{Sights, Keeps}
-use Rattle.live_calls.specs.Calls.{IsReady}
-use Rattle.live_calls.specs.declared.link.Room.{Room}
+use Rattle.live_reads.specs.Ways.{Sights, Keeps}
+use Rattle.live_growth.specs.Calls.{IsReady}
+use Rattle.live_growth.specs.declared.link.Room.{Room}
 use Rattle.live_pool.specs.Successions.{with_room, informed}
 
 abbrev Seen : Type 0

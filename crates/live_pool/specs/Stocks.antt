@@ -3,7 +3,7 @@ use Rattle.std.specs.Prelude.{◌≡◌, ℕ, List}
 use Rattle.word_book.specs.Book.{Book}
 use Rattle.live_nodes.specs.Seats.{SeatView, Each}
 use Rattle.live_law.specs.Views.{View}
-use Rattle.live_calls.specs.Ways.{Sights}
+use Rattle.live_reads.specs.Ways.{Sights}
 
 -- The seat is one of that map, and has met each node that is named.
 abbrev pub IsStock : Book → Book → SeatView View → List ℕ → Type 0

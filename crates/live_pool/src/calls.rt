@@ -7,13 +7,13 @@ ghost use Rattle.live_law.specs.Views.{ask, inserted};
 ghost use Rattle.live_law.specs.Known.{MadeCall};
 ghost use Rattle.live_updates.specs.Entries.{removed, swapped};
 ghost use Rattle.live_updates.specs.Refusals.{Refused};
-ghost use Rattle.live_computes.specs.Closures.{Reaches, EndsWithCall};
-ghost use Rattle.live_computes.specs.Entries.{computed_with, inserted_with, sum_with};
+ghost use Rattle.live_updates.specs.Closures.{Reaches, EndsWithCall};
+ghost use Rattle.live_updates.specs.ClosureEntries.{computed_with, inserted_with, sum_with};
 
 use crate::pool::Pool;
-use live_calls::map::{Busy, Guard, Refusal};
-use live_computes::present;
+use live_growth::map::{Busy, Guard, Refusal};
 use live_updates::calls;
+use live_updates::computes::present;
 use std::alloc::Global;
 
 impl Pool {

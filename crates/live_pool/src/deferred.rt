@@ -8,7 +8,7 @@ ghost use Rattle.std.specs.Prelude.{◌<◌};
 
 use crate::slot::swap;
 use counted_slot::{Counted, FREE, Fits, MARKED, PRESENT};
-use live_calls::map::Congee;
+use live_growth::map::Congee;
 use std::alloc::Global;
 use std::collections::VecDeque;
 

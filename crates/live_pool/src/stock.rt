@@ -4,14 +4,14 @@
 //! Whoever adds a name or takes one meets that seat, and so either knows where the node is.
 ghost use Rattle.std.specs.Prelude.{◌≡◌, ◌<◌, [], IfSome};
 ghost use Rattle.live_nodes.specs.Seats.{Each};
-ghost use Rattle.live_calls.specs.Ways.{Sights, Keeps};
+ghost use Rattle.live_reads.specs.Ways.{Sights, Keeps};
 ghost use Rattle.live_pool.specs.Stocks.{IsStock};
 
 use crate::slot::swap;
 use crate::succession::inform;
 use counted_slot::{Counted, FREE, Fits, MARKED, PRESENT};
-use live_calls::map::Congee;
-use live_calls::way::Pass;
+use live_growth::map::Congee;
+use live_reads::way::Pass;
 use std::alloc::Global;
 
 /// Names of nodes of one form.

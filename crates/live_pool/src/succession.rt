@@ -2,10 +2,10 @@
 ghost use Rattle.std.specs.Prelude.{◌≡◌};
 ghost use Rattle.live_pool.specs.Successions.{Succeeds, Informs};
 
-use live_calls::map::Guard;
-use live_calls::way::Pass;
+use live_growth::map::Guard;
 use live_law::law::{Levels, Mine};
 use live_nodes::law::{NodeLaw, Seat, View};
+use live_reads::way::Pass;
 use word_book::seat::Meeting;
 
 /// A seat takes another's room over.

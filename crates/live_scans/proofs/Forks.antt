@@ -8,19 +8,19 @@ use Rattle.word_book.specs.Book.{Book, Name, reads, none_joined}
 use Rattle.live_nodes.specs.Nodes.{Content}
 use Rattle.live_nodes.specs.Seats.{read, SeatView, IsIn, Agree}
 use Rattle.live_nodes.specs.Plays.{Checks}
-use Rattle.live_rows.specs.Rows.{AreOf, last_saw, without_reads}
-use Rattle.live_cells.specs.Words as cells
-use Rattle.live_cells.specs.Head.{IsHead}
-use Rattle.live_encodes.specs.Encodes.{IsBelow, IsWord, Encodes}
+use Rattle.live_nodes.specs.Rows.{AreOf, last_saw, without_reads}
+use Rattle.live_layout.specs.Words as cells
+use Rattle.live_layout.specs.Head.{IsHead}
+use Rattle.live_layout.specs.Encodes.{IsBelow, IsWord, Encodes}
 use Rattle.live_law.specs.Levels.{up, digit, way, spot, place_at}
 use Rattle.live_law.specs.Views.{View, Watch, watch}
 use Rattle.live_law.specs.Tree.{LearnsBelow, Watches}
-use Rattle.live_calls.specs.Ways.{Sights, HasOpened, IsOpen, Keeps}
-use Rattle.live_calls.specs.Sees.{Sees}
-use Rattle.live_calls.specs.declared.sight.Sight.TheVariants as sights
-use Rattle.live_calls.proofs.Views.{open_checked}
-use Rattle.live_calls.proofs.Sights.{leaves_lower, leaves_byte}
-use Rattle.live_calls.proofs.Forks.{watch_forks}
+use Rattle.live_reads.specs.Ways.{Sights, HasOpened, IsOpen, Keeps}
+use Rattle.live_reads.specs.Sees.{Sees}
+use Rattle.live_reads.specs.declared.sight.Sight.TheVariants as sights
+use Rattle.live_reads.proofs.Views.{open_checked}
+use Rattle.live_reads.proofs.Sights.{leaves_lower, leaves_byte}
+use Rattle.live_reads.proofs.Forks.{watch_forks}
 use Rattle.live_scans.specs.inner.Forks.{IsAside}
 
 abbrev Seen : Type 0

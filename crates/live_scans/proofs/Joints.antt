@@ -1,9 +1,9 @@
 -- The best of keys, word by word.
 use Rattle.std.proofs.Common.{◌≡◌, ℕ, ◌+◌, ◌-◌, ◌*◌, ◌/◌, ◌%◌, ◌<◌, ◌≤◌, List, Option, Some, None, sym, ap, ◌∙◌, subst, inl, inr, arith}
 use Rattle.std.proofs.lemmas.Bool.{cases_lt}
-use Rattle.live_cells.specs.Words.{at, lane}
-use Rattle.live_cells.specs.ListCells.{key}
-use Rattle.live_order.specs.inner.Best.{IsBest}
+use Rattle.live_layout.specs.Words.{at, lane}
+use Rattle.live_layout.specs.ListCells.{key}
+use Rattle.live_layout.specs.inner.Best.{IsBest}
 use Rattle.live_scans.specs.inner.Afters.{IsLeast}
 
 -- from the first place on

@@ -9,3 +9,9 @@ pub mod Nexts
 pub mod Afters
 pub mod Leasts
 pub mod Joints
+pub mod Firsts
+pub mod Downs
+pub mod Behinds
+pub mod Ends
+pub mod Steps
+pub mod Knowing

@@ -13,22 +13,22 @@ use Rattle.live_nodes.specs.Seats.{Read, read, SeatView, IsIn, Agree}
 use Rattle.live_nodes.specs.Plays as Plays
 use Rattle.live_nodes.specs.Plays.{read_of, Checks}
 use Rattle.live_nodes.specs.Calls.{MayCheck}
-use Rattle.live_rows.specs.Rows.{AreOf, last_saw, without_reads}
-use Rattle.live_cells.specs.Words as cells
-use Rattle.live_cells.specs.Head.{IsHead}
-use Rattle.live_encodes.specs.Encodes.{IsBelow, IsWord, Encodes}
-use Rattle.live_order.specs.Order.{HasNearest}
+use Rattle.live_nodes.specs.Rows.{AreOf, last_saw, without_reads}
+use Rattle.live_layout.specs.Words as cells
+use Rattle.live_layout.specs.Head.{IsHead}
+use Rattle.live_layout.specs.Encodes.{IsBelow, IsWord, Encodes}
+use Rattle.live_layout.specs.Order.{HasNearest}
 use Rattle.live_law.specs.Levels.{up, digit, Shape, Spot, spot, place_at}
 use Rattle.live_law.specs.Views.{View, watch, Ask}
 use Rattle.live_law.specs.Tree.{IsMap, IsOf, IsOfKind, LearnsNode, LearnsHead, LearnsBelow, Looks, Watches}
 use Rattle.live_law.proofs.Looks.{node_below, HadBelow}
 use Rattle.live_law.proofs.Plans.{digit-low}
-use Rattle.live_calls.specs.Ways.{Names, Sights, HasOpened, IsOpen, Keeps}
-use Rattle.live_calls.specs.Sees.{Sees}
-use Rattle.live_calls.specs.declared.sight.Sight.TheVariants as sights
-use Rattle.live_calls.proofs.Views.{reading_on, reading_on_keeps, learned_keeps, open_read, may_check_open, open_checked, open_missed, may_look, look_missed, look_ends, may_meet, meet_missed, meet_head, same_named}
-use Rattle.live_calls.proofs.Sights.{sights_kept, covers_by}
-use Rattle.live_calls.proofs.Finds.{keeps_then, names_kept, looked_below}
+use Rattle.live_reads.specs.Ways.{Names, Sights, HasOpened, IsOpen, Keeps}
+use Rattle.live_reads.specs.Sees.{Sees}
+use Rattle.live_reads.specs.declared.sight.Sight.TheVariants as sights
+use Rattle.live_reads.proofs.Views.{reading_on, reading_on_keeps, learned_keeps, open_read, may_check_open, open_checked, open_missed, may_look, look_missed, look_ends, may_meet, meet_missed, meet_head, same_named}
+use Rattle.live_reads.proofs.Sights.{sights_kept, covers_by}
+use Rattle.live_reads.proofs.Finds.{keeps_then, names_kept, looked_below}
 use Rattle.live_scans.specs.inner.Moments.{SeesMore, HasUnder, IsRead, LearnsAll, HasNone, IsPassed, ReadsOn}
 use Rattle.live_scans.specs.Scans.{HasRead}
 use Rattle.live_scans.specs.inner.Nexts.{IsNear, HasHead, IsNext, IsOutside, Chooses, Turns}
@@ -37,7 +37,7 @@ use Rattle.live_scans.specs.declared.next.Turn.{Turn}
 use Rattle.live_scans.specs.declared.next.Turn.TheVariants as turns
 use Rattle.live_scans.proofs.Uppers.{up-rises}
 use Rattle.live_scans.proofs.Composed.{none_read, reads_then, reads_since, reads_fewer}
-use Rattle.live_order.proofs.PageLaws.{filled_none}
+use Rattle.live_layout.proofs.PageLaws.{filled_none}
 use Rattle.live_scans.specs.inner.Steps.{IsStep}
 use Rattle.live_scans.specs.inner.Stops.{IsStand, Reaches}
 use Rattle.live_scans.specs.declared.seek.Stand.{Stand}

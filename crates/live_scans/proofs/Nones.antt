@@ -5,15 +5,15 @@ use Rattle.node_table.specs.TableNode.{Child}
 use Rattle.node_table.specs.declared.child.Child.TheVariants.{Payload, Node as Below}
 use Rattle.word_book.specs.Book.{Book, Name}
 use Rattle.live_nodes.specs.Seats.{SeatView}
-use Rattle.live_encodes.specs.Encodes.{IsBelow, payload_of}
-use Rattle.live_order.specs.Order.{HasNearest}
-use Rattle.live_order.specs.Page.{AreListed}
+use Rattle.live_layout.specs.Encodes.{IsBelow, payload_of}
+use Rattle.live_layout.specs.Order.{HasNearest}
+use Rattle.live_layout.specs.Page.{AreListed}
 use Rattle.live_law.specs.Levels.{up, digit, Covers}
 use Rattle.live_law.specs.Views.{View}
 use Rattle.live_law.specs.Tree.{IsOfKind}
 use Rattle.live_law.proofs.Plans.{way-key, joined, digit-low}
-use Rattle.live_calls.specs.Ways.{Names}
-use Rattle.live_calls.specs.Forks.{IsForked}
+use Rattle.live_reads.specs.Ways.{Names}
+use Rattle.live_reads.specs.Forks.{IsForked}
 use Rattle.live_scans.specs.inner.Moments.{HasUnder, IsRead, HasNone, IsWithin, IsBeside, ReadsOn}
 use Rattle.live_scans.specs.inner.Forks.{IsAside}
 use Rattle.live_scans.proofs.Uppers.{up-rises}

@@ -8,9 +8,9 @@ use Rattle.live_nodes.specs.Seats.{SeatView}
 use Rattle.live_law.specs.Views.{View}
 use Rattle.live_law.specs.Known.{Known}
 use Rattle.live_law.specs.Begun.{began}
-use Rattle.live_calls.specs.Calls.{known_of}
-use Rattle.live_calls.specs.Roots.{Begins}
-use Rattle.live_calls.proofs.Ready.{made_call}
+use Rattle.live_growth.specs.Calls.{known_of}
+use Rattle.live_reads.specs.Roots.{Begins}
+use Rattle.live_growth.proofs.Ready.{made_call}
 use Rattle.live_scans.specs.Scans.{Moment, HasRead, HasBegun, GaveUp, HasWaited, HasPage, HasNext}
 use Rattle.live_scans.specs.inner.Steps.{IsPage}
 use Rattle.live_scans.proofs.Composed.{starts_then, nothing_between, narrowed}

@@ -7,11 +7,11 @@ use Rattle.spec_map.specs.Map.{Pairs}
 use Rattle.share_rule.specs.History.{Entry}
 use Rattle.live_nodes.specs.Seats.{SeatView}
 use Rattle.live_law.specs.Views.{View, Ask}
-use Rattle.live_calls.specs.Ways.{Ended, Keeps}
-use Rattle.live_calls.specs.Sees.{Follows}
-use Rattle.live_calls.specs.declared.sight.Next.{Next}
-use Rattle.live_calls.specs.declared.sight.Next.TheVariants as nexts
-use Rattle.live_order.proofs.PageLaws.{filled_none}
+use Rattle.live_reads.specs.Ways.{Ended, Keeps}
+use Rattle.live_reads.specs.Sees.{Follows}
+use Rattle.live_reads.specs.declared.sight.Next.{Next}
+use Rattle.live_reads.specs.declared.sight.Next.TheVariants as nexts
+use Rattle.live_layout.proofs.PageLaws.{filled_none}
 use Rattle.live_scans.specs.Scans.{HasRead}
 use Rattle.live_scans.specs.inner.Moments.{SeesMore, IsPassed, ReadsOn}
 use Rattle.live_scans.specs.inner.Steps.{IsStep}

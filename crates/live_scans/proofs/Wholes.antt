@@ -11,16 +11,16 @@ use Rattle.live_nodes.specs.Acts as acts
 use Rattle.live_nodes.specs.Plays as Plays
 use Rattle.live_nodes.specs.Plays.{Checks}
 use Rattle.live_nodes.specs.Calls.{MayCheck}
-use Rattle.live_rows.specs.Rows.{last_saw, without_reads}
+use Rattle.live_nodes.specs.Rows.{last_saw, without_reads}
 use Rattle.live_law.specs.Levels.{up, digit, Covers, way, Shape, Spot, place_at}
 use Rattle.live_law.specs.Views.{Watch, View, view_of, ask}
 use Rattle.live_law.specs.Tree.{IsMap, IsNow, IsUnder, LeadsDown}
 use Rattle.live_law.proofs.Histories.{sees_all}
 use Rattle.live_law.proofs.Looks.{with_view, met, is_now, is_current, same_watched, of_kind, at_leaf, at_inner}
 use Rattle.live_law.proofs.Plans.{digit-low, none_there, missed, same_name}
-use Rattle.live_calls.specs.Ways.{IsOpen, Keeps}
-use Rattle.live_calls.specs.Forks.{IsForked}
-use Rattle.live_calls.proofs.Views.{learned_keeps, may_check_open, open_checked, open_missed}
+use Rattle.live_reads.specs.Ways.{IsOpen, Keeps}
+use Rattle.live_reads.specs.Forks.{IsForked}
+use Rattle.live_reads.proofs.Views.{learned_keeps, may_check_open, open_checked, open_missed}
 use Rattle.live_scans.specs.inner.Moments.{HasUnder, IsRead, LearnsAll}
 
 abbrev Seen : Type 0

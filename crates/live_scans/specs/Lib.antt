@@ -1,2 +1,4 @@
 pub mod Scans
+pub mod Floors
+pub mod Counts
 pub mod inner

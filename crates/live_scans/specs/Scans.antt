@@ -2,10 +2,10 @@
 use Rattle.std.specs.Prelude.{◌≡◌, ◌⊎◌, ℕ, zero, suc, ◌+◌, ◌/◌, ◌^◌, ◌<◌, ◌≤◌, Bool, true, nat_eq, List, [], ◌∷◌, length, Option, Some, None}
 use Rattle.spec_map.specs.Map.{Pairs, lookup, Rises}
 use Rattle.share_rule.specs.History.{Entry, StartsWith, IsHistory}
-use Rattle.live_order.specs.Order.{IsFrom}
+use Rattle.live_layout.specs.Order.{IsFrom}
 use Rattle.live_law.specs.Known.{Known, MadeCall}
 use Rattle.live_law.specs.Begun.{began}
-use Rattle.live_calls.specs.Meetings.{SeenMore}
+use Rattle.live_reads.specs.Meetings.{SeenMore}
 
 -- a moment of the map: a legal history, and the map that it leads to
 pub record Moment : Type 0 where

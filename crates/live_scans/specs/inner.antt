@@ -4,3 +4,6 @@ pub mod Steps
 pub mod Stops
 pub mod Nexts
 pub mod Afters
+pub mod Downs
+pub mod StopsDown
+pub mod LeafSteps

@@ -2,19 +2,19 @@
 ghost use Rattle.std.specs.Prelude.{◌≡◌, ℕ, ◌+◌, ◌-◌, ◌*◌, ◌/◌, ◌%◌, ◌<◌, ◌≤◌, true, List, Some, None, IfSome};
 ghost use Rattle.std.specs.Int.{bit_at};
 ghost use Rattle.node_table.specs.TableNode.{TableNode};
-ghost use Rattle.live_cells.specs.Words.{at, lane, Stays};
-ghost use Rattle.live_cells.specs.ListCells.{count, key, first, HasList};
+ghost use Rattle.live_layout.specs.Words.{at, lane, Stays};
+ghost use Rattle.live_layout.specs.ListCells.{count, key, first, HasList};
 ghost use Rattle.node_base.specs.Form.{limit};
-ghost use Rattle.live_encodes.specs.Encodes.{words_of, Encodes};
-ghost use Rattle.live_order.specs.Order.{IsNearest, HasNearest};
-ghost use Rattle.live_order.specs.inner.Best.{IsBest};
+ghost use Rattle.live_layout.specs.Encodes.{words_of, Encodes};
+ghost use Rattle.live_layout.specs.Order.{IsNearest, HasNearest};
+ghost use Rattle.live_layout.specs.inner.Best.{IsBest};
 ghost use Rattle.live_scans.specs.inner.Afters.{IsLeast};
 
-use live_cells::lanes::lane_of;
-use live_cells::list::first_child;
-use live_cells::words::Cells;
-use live_encodes::form::room_of;
-use live_order::nearest::nearest;
+use live_layout::form::room_of;
+use live_layout::lanes::lane_of;
+use live_layout::list::first_child;
+use live_layout::nearest::nearest;
+use live_layout::words::Cells;
 use node_base::base_node::NodeType;
 use std::simd::prelude::*;
 

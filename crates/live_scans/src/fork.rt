@@ -1,17 +1,17 @@
 //! A node that leads on to one whose way a key leaves.
 ghost use Rattle.std.specs.Prelude.{◌≡◌, ◌≤◌, Some, IsTrue};
-ghost use Rattle.live_calls.specs.Ways.{Sights, IsOpen, Keeps};
-ghost use Rattle.live_calls.specs.Forks.{first_number};
+ghost use Rattle.live_reads.specs.Ways.{Sights, IsOpen, Keeps};
+ghost use Rattle.live_reads.specs.Forks.{first_number};
 ghost use Rattle.live_scans.specs.inner.Forks.{IsAside};
 
-use live_calls::sight::{Fork, Sight, compare};
-use live_calls::way::{Nodes, Opened, Pass, byte_at, open};
-use live_cells::words::Cells;
-use live_encodes::form::{form_below, slot_below};
-use live_encodes::search::find;
 use live_law::law::{Above, Below, Levels, Mine};
+use live_layout::form::{form_below, slot_below};
+use live_layout::search::find;
+use live_layout::words::Cells;
 use live_nodes::node;
-use live_rows::rows::Row;
+use live_nodes::rows::Row;
+use live_reads::sight::{Fork, Sight, compare};
+use live_reads::way::{Nodes, Opened, Pass, byte_at, open};
 
 /// Whether an open node leads on to one whose way the key leaves as it did. While the open one is as it was, so is that.
 /// `false` where a writer came in between.

@@ -1,23 +1,23 @@
 //! The way on from a key below a node: to the next node, or past keys that are absent.
 ghost use Rattle.std.specs.Prelude.{◌≡◌, ℕ, ◌+◌, ◌-◌, ◌*◌, ◌^◌, ◌%◌, ◌<◌, ◌≤◌, true, false, Some, IfSome, IsTrue};
 ghost use Rattle.node_table.specs.declared.child.Child.TheVariants.{Node};
-ghost use Rattle.live_encodes.specs.Encodes.{IsWord};
+ghost use Rattle.live_layout.specs.Encodes.{IsWord};
 ghost use Rattle.live_law.specs.Levels.{up, digit};
-ghost use Rattle.live_calls.specs.Ways.{Names, Sights, Keeps};
-ghost use Rattle.live_calls.specs.Forks.{first_number};
+ghost use Rattle.live_reads.specs.Ways.{Names, Sights, Keeps};
+ghost use Rattle.live_reads.specs.Forks.{first_number};
 ghost use Rattle.live_scans.specs.inner.Moments.{SeesMore, HasNone};
 ghost use Rattle.live_scans.specs.inner.Nexts.{IsNear, IsNext, HasHead, IsOutside, Chooses, Turns};
 
 use crate::after::child_after;
 use crate::keys::{floor_of, last_of, upper};
 use crate::lesson::Whole;
-use live_calls::sight::{Sight, compare, enter};
-use live_calls::way::{Cell, Nodes, Opened, Pass, byte_at, open};
-use live_cells::words::Cells;
-use live_encodes::form::{form_below, slot_below};
 use live_law::law::{Above, Asks, Below, Head, Levels, Look, Mine};
+use live_layout::form::{form_below, slot_below};
+use live_layout::words::Cells;
 use live_nodes::node;
-use live_rows::rows::Row;
+use live_nodes::rows::Row;
+use live_reads::sight::{Sight, compare, enter};
+use live_reads::way::{Cell, Nodes, Opened, Pass, byte_at, open};
 use std::marker::Brand;
 
 /// An open node, and its child nearest to a key's byte: the byte and the word.

@@ -1,15 +1,15 @@
 //! Pages of a range, leaf by leaf.
 ghost use Rattle.std.specs.Prelude.{◌≡◌, ◌≢◌, ◌+◌, ◌%◌, ◌^◌, ◌<◌, ◌≤◌, length, take, IfSome};
 ghost use Rattle.live_scans.specs.inner.Moments.{SeesMore};
-ghost use Rattle.live_order.specs.Page.{pairs_of};
-ghost use Rattle.live_calls.specs.Ways.{KnowsTrunk, Keeps};
+ghost use Rattle.live_layout.specs.Page.{pairs_of};
+ghost use Rattle.live_reads.specs.Ways.{KnowsTrunk, Keeps};
 ghost use Rattle.live_scans.specs.inner.Steps.{IsStep, IsPage};
 ghost use Rattle.live_scans.specs.inner.Stops.{IsStand};
 
 use crate::seek::{Reach, Stand, begin, seek_on};
 use crate::steps::leaf_page;
-use live_calls::way::{Nodes, Pass};
-use live_order::page::{Part, RangeEntry};
+use live_layout::page::{Part, RangeEntry};
+use live_reads::way::{Nodes, Pass};
 use std::marker::Brand;
 
 /// How often a step is tried before a page is given up.

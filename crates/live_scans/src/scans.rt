@@ -1,13 +1,13 @@
 //! The calls that read many keys. Each is made by a guard of the map. It begins with an entry of its own in the history, and
 //! enters nothing more.
 ghost use Rattle.std.specs.Prelude.{◌≡◌, ◌+◌, ◌≤◌, length, take, IfOk, OnErr};
-ghost use Rattle.live_order.specs.Page.{pairs_of};
+ghost use Rattle.live_layout.specs.Page.{pairs_of};
 ghost use Rattle.live_scans.specs.Scans.{HasBegun, GaveUp, HasPage, HasNext};
 
 use crate::page::page;
 use crate::seek::start;
-use live_calls::map::{Busy, Congee, Guard};
-use live_order::page::RangeEntry;
+use live_growth::map::{Busy, Congee, Guard};
+use live_layout::page::RangeEntry;
 
 /// A reader begins, and reads no key.
 pub fn begin_only(map: &Congee, guard: &mut Guard) -> Result<(), Busy>

@@ -1,14 +1,14 @@
 //! The way of a reader to the leaf of a key.
 ghost use Rattle.std.specs.Prelude.{◌≡◌, IfSome};
 ghost use Rattle.live_scans.specs.inner.Moments.{SeesMore};
-ghost use Rattle.live_calls.specs.Ways.{KnowsTrunk, Keeps};
+ghost use Rattle.live_reads.specs.Ways.{KnowsTrunk, Keeps};
 ghost use Rattle.live_scans.specs.inner.Stops.{IsStand, Starts, Reaches};
 
 use crate::keys::upper;
 use crate::next::{Turn, next_turn};
-use live_calls::map::TRIES;
-use live_calls::way::{Nodes, Pass, root, root_begun};
+use live_growth::map::TRIES;
 use live_law::law::Asks;
+use live_reads::way::{Nodes, Pass, root, root_begun};
 
 /// A node that a reader has come to, its height, and a key that begins like it.
 #[derive(Clone, Copy, Debug, PartialEq, Eq)]

@@ -1,18 +1,18 @@
 //! The steps of a reader upwards, each at the check of one node.
 ghost use Rattle.std.specs.Prelude.{◌≡◌, ◌≢◌, ◌+◌, ◌%◌, ◌<◌, ◌≤◌, ◌^◌, length, take, drop, IfSome, IsTrue};
-ghost use Rattle.live_order.specs.Page.{pairs_of};
-ghost use Rattle.live_calls.specs.Ways.{Names, Leaves, Keeps};
+ghost use Rattle.live_layout.specs.Page.{pairs_of};
+ghost use Rattle.live_reads.specs.Ways.{Names, Leaves, Keeps};
 ghost use Rattle.live_scans.specs.inner.Moments.{SeesMore, HasNone, IsBeside, ReadsOn};
 
 use crate::fork::watch;
 use crate::lesson::Whole;
-use live_calls::sight::{Fork, enter};
-use live_calls::way::{Nodes, Opened, Pass};
-use live_encodes::form::form_below;
 use live_law::law::{Asks, Levels, Mine};
+use live_layout::form::form_below;
+use live_layout::page::{Filled, Part, RangeEntry, fill};
 use live_nodes::node;
-use live_order::page::{Filled, Part, RangeEntry, fill};
-use live_rows::rows::Row;
+use live_nodes::rows::Row;
+use live_reads::sight::{Fork, enter};
+use live_reads::way::{Nodes, Opened, Pass};
 use std::marker::Brand;
 
 /// Whether a node leads to one whose way the key leaves. So it leads to no other keys under that byte. `false` also where a

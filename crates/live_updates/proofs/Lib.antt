@@ -5,3 +5,6 @@ pub mod Leaves
 pub mod Written
 pub mod Ended
 pub mod Made
+pub mod Reached
+pub mod Called
+pub mod Tries

@@ -10,14 +10,14 @@ use Rattle.live_nodes.specs.Nodes.{Content}
 use Rattle.live_nodes.specs.Plays as Plays
 use Rattle.live_nodes.specs.Plays.{Checks}
 use Rattle.live_nodes.specs.Seats.{Place, Read, read, SeatView, seat_view, IsIn, Agree}
-use Rattle.live_rows.specs.Rows.{last_saw, without_reads}
-use Rattle.live_encodes.specs.Encodes.{IsBelow, Encodes}
+use Rattle.live_nodes.specs.Rows.{last_saw, without_reads}
+use Rattle.live_layout.specs.Encodes.{IsBelow, Encodes}
 use Rattle.live_law.specs.Levels.{up, digit, Shape, Spot, spot, Covers, place_at}
 use Rattle.live_law.specs.Views.{View}
 use Rattle.live_law.specs.Tree.{IsMap, IsOfKind, Answers}
-use Rattle.live_calls.specs.Forks.{IsForked}
-use Rattle.live_calls.specs.Ways.{IsOpen, Keeps, Sights}
-use Rattle.live_calls.proofs.Views.{learned_keeps, may_check_open, open_checked, open_missed}
+use Rattle.live_reads.specs.Forks.{IsForked}
+use Rattle.live_reads.specs.Ways.{IsOpen, Keeps, Sights}
+use Rattle.live_reads.proofs.Views.{learned_keeps, may_check_open, open_checked, open_missed}
 use Rattle.live_updates.specs.declared.lookup.Site.{Site}
 use Rattle.live_updates.specs.declared.lookup.Site.TheVariants as sites
 use Rattle.live_updates.specs.inner.Lookups.{Lookup, IsLookup, asked_by, MayEnd, MaySight, Seeks, LearnsSeek, EndsBy, Found, Lacks, Sought}

@@ -6,7 +6,7 @@ use Rattle.node_table.specs.TableNode.{TableNode}
 use Rattle.spec_map.specs.Map.{lookup}
 use Rattle.spec_map.proofs.ByteMapLaws.{length-from_Rises}
 use Rattle.live_nodes.specs.Nodes.{Content}
-use Rattle.live_encodes.specs.Encodes.{counted, most, HasChildren, IsCounted, Encodes, with_child}
+use Rattle.live_layout.specs.Encodes.{counted, most, HasChildren, IsCounted, Encodes, with_child}
 use Rattle.live_law.specs.Levels.{digit}
 use Rattle.live_law.specs.Tree.{HasValue}
 use Rattle.live_updates.specs.declared.leaf.Missed.{Missed}

@@ -1,3 +1,5 @@
 pub mod Entries
 pub mod Refusals
+pub mod Closures
+pub mod ClosureEntries
 pub mod inner

@@ -2,8 +2,8 @@
 use Rattle.std.specs.Prelude.{◌≡◌, ℕ, None}
 use Rattle.live_law.specs.Views.{ask, got}
 use Rattle.live_law.specs.Known.{Known, MadeCall}
-use Rattle.live_calls.specs.declared.map.Refusal.{Refusal}
-use Rattle.live_calls.specs.declared.map.Refusal.TheVariants as refusals
+use Rattle.live_growth.specs.declared.map.Refusal.{Refusal}
+use Rattle.live_growth.specs.declared.map.Refusal.TheVariants as refusals
 
 -- THE KEY WAS ABSENT at a moment of a call by a guard that knew k: a look-up of the key is entered, which found none
 abbrev pub FoundNone : Known → ℕ → Known → Type 0

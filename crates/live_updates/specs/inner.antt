@@ -1,2 +1,3 @@
 pub mod Lookups
 pub mod Updates
+pub mod Ends

@@ -5,7 +5,7 @@ ghost use Rattle.std.specs.Prelude.{◌≡◌, false, IsTrue};
 ghost use Rattle.live_updates.specs.Refusals.{FoundNone};
 
 use crate::lookup::{Site, seek};
-use live_calls::map::{Congee, Guard, TRIES};
+use live_growth::map::{Congee, Guard, TRIES};
 use std::marker::Brand;
 
 /// Whether a key is absent. Then a look-up of it is entered, which found none. `false` where it is present, or too many writers

@@ -2,15 +2,15 @@
 ghost use Rattle.std.specs.Prelude.{◌≡◌, IfOk, IfSome, OnErr};
 ghost use Rattle.std.specs.Option.{option_map};
 ghost use Rattle.live_law.specs.Known.{MadeCall};
-ghost use Rattle.live_calls.specs.Calls.{IsReady};
+ghost use Rattle.live_growth.specs.Calls.{IsReady};
 ghost use Rattle.live_updates.specs.Entries.{removed, swapped};
 ghost use Rattle.live_updates.specs.inner.Lookups.{swap_of, EndsBy};
 
 use crate::leaf::exchange_here;
 use crate::lookup::{Site, seek};
-use live_calls::link::Room;
-use live_calls::map::{Busy, Congee, Guard, TRIES};
-use live_calls::way::{Nodes, Pass};
+use live_growth::link::Room;
+use live_growth::map::{Busy, Congee, Guard, TRIES};
+use live_reads::way::{Nodes, Pass};
 use std::marker::Brand;
 
 /// An exchange: who makes it, with which key and values. A caller picks it.

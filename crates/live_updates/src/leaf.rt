@@ -1,26 +1,26 @@
 //! A leaf is locked, and a key there gets another value, or none.
 ghost use Rattle.std.specs.Prelude.{◌≡◌, ℕ, [], length, Some, None};
 ghost use Rattle.node_table.specs.TableNode.{TableNode};
-ghost use Rattle.live_cells.specs.Words.{Stays, Looks};
-ghost use Rattle.live_encodes.specs.Encodes.{words_of, IsCounted, Encodes};
-ghost use Rattle.live_calls.specs.Ways.{Names};
-ghost use Rattle.live_calls.specs.Holds.{HasRest};
-ghost use Rattle.live_calls.specs.Calls.{IsReady};
+ghost use Rattle.live_layout.specs.Words.{Stays, Looks};
+ghost use Rattle.live_layout.specs.Encodes.{words_of, IsCounted, Encodes};
+ghost use Rattle.live_reads.specs.Ways.{Names};
+ghost use Rattle.live_growth.specs.Holds.{HasRest};
+ghost use Rattle.live_growth.specs.Calls.{IsReady};
 ghost use Rattle.live_updates.specs.inner.Updates.{IsUpdate, IsSet, Updated, missed_by};
 
-use live_calls::held::{lock_node, unlock_same};
-use live_calls::link::Room;
-use live_calls::way::{Nodes, Pass, byte_at, words_at};
-use live_cells::words::{Draft, Drafted};
 use live_detach::narrow::{Fill, fill_of, narrow_way};
 use live_detach::tidy::tidy;
-use live_encodes::change::{change, is_full, put, take};
-use live_encodes::form::{form_below, words_in};
-use live_encodes::search::find;
+use live_growth::held::{lock_node, unlock_same};
+use live_growth::link::Room;
 use live_law::law::{Levels, Mine};
+use live_layout::change::{change, is_full, put, take};
+use live_layout::form::{form_below, words_in};
+use live_layout::search::find;
+use live_layout::words::{Draft, Drafted};
 use live_nodes::node;
 use live_nodes::plays::Change;
-use live_rows::rows::Held;
+use live_nodes::rows::Held;
+use live_reads::way::{Nodes, Pass, byte_at, words_at};
 use node_base::base_node::NodeType;
 use std::marker::{Brand, PhantomData};
 

@@ -1,17 +1,17 @@
 //! A look-up of a key, which may end a call: the key's value, and its leaf.
 ghost use Rattle.std.specs.Prelude.{◌≡◌, ◌≤◌};
-ghost use Rattle.live_calls.specs.Ways.{KnowsTrunk, Sights, IsOpen, Keeps};
+ghost use Rattle.live_reads.specs.Ways.{KnowsTrunk, Sights, IsOpen, Keeps};
 ghost use Rattle.live_updates.specs.inner.Lookups.{IsLookup, MaySight, Found, Lacks, Sought};
 
-use live_calls::fork::watch;
-use live_calls::sight::{Next, enter, step};
-use live_calls::way::{Nodes, Opened, Pass, byte_at, open, root};
-use live_encodes::form::form_below;
-use live_encodes::search::find;
 use live_law::law::{Levels, Mine};
+use live_layout::form::form_below;
+use live_layout::search::find;
 use live_nodes::node;
 use live_nodes::plays::Lesson;
-use live_rows::rows::Row;
+use live_nodes::rows::Row;
+use live_reads::fork::watch;
+use live_reads::sight::{Next, enter, step};
+use live_reads::way::{Nodes, Opened, Pass, byte_at, open, root};
 use std::marker::{Brand, PhantomData};
 
 /// A look-up: who makes it, of which key, and where its call ends. A caller picks it.

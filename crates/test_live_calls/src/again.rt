@@ -2,7 +2,7 @@
 
 ghost use Rattle.std.specs.Prelude.{◌≡◌};
 
-use live_calls::map::{Congee, Guard};
+use live_growth::map::{Congee, Guard};
 use std::alloc::Global;
 use std::test::Fail;
 

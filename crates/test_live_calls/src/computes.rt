@@ -1,7 +1,7 @@
 //! Each call by one thread, and a key that two threads count up.
 
-use live_calls::map::{Busy, Congee, Refusal};
-use live_computes::present::{add, compute_if_present, compute_or_insert, get_or_insert};
+use live_growth::map::{Busy, Congee, Refusal};
+use live_updates::computes::present::{add, compute_if_present, compute_or_insert, get_or_insert};
 use std::alloc::Global;
 use std::test::Fail;
 use std::thread::{Threads, join};

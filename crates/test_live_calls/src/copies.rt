@@ -2,8 +2,8 @@
 
 ghost use Rattle.std.specs.Prelude.{◌≡◌};
 
-use live_calls::map::{Congee, Guard, Refusal};
 use live_copies::copy::copy;
+use live_growth::map::{Congee, Guard, Refusal};
 use std::alloc::Global;
 use std::thread::{Threads, join};
 

@@ -2,8 +2,8 @@
 
 ghost use Rattle.std.specs.Prelude.{◌≡◌};
 
-use live_calls::insert::descend;
-use live_calls::map::{Busy, Congee, Guard, Refusal};
+use live_growth::map::{Busy, Congee, Guard, Refusal};
+use live_reads::descend::descend;
 use live_updates::calls::remove;
 use std::alloc::Global;
 use std::test::Fail;

@@ -1,6 +1,6 @@
 //! Exchanges, by one thread and by four.
 
-use live_calls::map::{Busy, Congee};
+use live_growth::map::{Busy, Congee};
 use live_updates::calls::compare_exchange;
 use std::alloc::Global;
 use std::test::Fail;

@@ -2,12 +2,12 @@
 
 ghost use Rattle.std.specs.Prelude.{◌≡◌};
 
-use live_calls::held::lock_node;
-use live_calls::insert::descend;
-use live_calls::map::{Busy, Congee, Guard, Refusal};
-use live_calls::way::words_at;
-use live_computes::present::add;
+use live_growth::held::lock_node;
+use live_growth::map::{Busy, Congee, Guard, Refusal};
+use live_reads::descend::descend;
+use live_reads::way::words_at;
 use live_updates::calls::remove;
+use live_updates::computes::present::add;
 use std::alloc::Global;
 use std::test::Fail;
 

@@ -3,8 +3,8 @@
 ghost use Rattle.std.specs.Prelude.{◌≡◌};
 
 use crate::detached::{is_gone, is_new};
-use live_calls::insert::descend;
-use live_calls::map::{Congee, Guard};
+use live_growth::map::{Congee, Guard};
+use live_reads::descend::descend;
 use std::alloc::Global;
 use std::test::Fail;
 use std::thread::{Threads, join};

@@ -2,7 +2,7 @@
 
 ghost use Rattle.std.specs.Prelude.{◌≡◌};
 
-use live_calls::map::{Busy, Congee, Guard, Refusal};
+use live_growth::map::{Busy, Congee, Guard, Refusal};
 use std::alloc::Global;
 use std::test::Fail;
 use std::thread::{Threads, join};

@@ -1,6 +1,6 @@
 //! Removals, and exchanges that remove, by one thread and by two.
 
-use live_calls::map::{Busy, Congee, Refusal};
+use live_growth::map::{Busy, Congee, Refusal};
 use live_updates::calls::{compare_exchange, remove};
 use std::alloc::Global;
 use std::test::Fail;

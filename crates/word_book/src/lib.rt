@@ -11,7 +11,7 @@
 //!
 //! `unsafe` and proofs by hand stay in here: a crate above writes safe code, and shows facts of lists.
 //!
-//! Tested in `test_word_book`.
+//! Tested in `test_live_words`.
 #![tactic(auto)]
 
 pub mod seat;

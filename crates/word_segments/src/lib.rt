@@ -4,7 +4,7 @@
 //! many up to 65,536, and so has each one after that. So a small book takes little memory, and a large one has at most
 //! 512 KiB that nothing uses yet. A segment comes in once, and goes with the directory.
 //!
-//! Tested in `test_live_nodes`.
+//! Tested in `test_live_words`.
 #![tactic(auto)]
 
 pub mod place;

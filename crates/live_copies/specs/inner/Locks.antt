@@ -6,8 +6,8 @@ use Rattle.spec_map.specs.Map.{Pairs}
 use Rattle.word_book.specs.Book.{Book, Name}
 use Rattle.live_nodes.specs.Nodes.{Content}
 use Rattle.live_nodes.specs.Seats.{Place, Hold, hold, SeatView, IsIn, Each}
-use Rattle.live_rows.specs.Rows.{AreOf}
-use Rattle.live_encodes.specs.Encodes.{words_of}
+use Rattle.live_nodes.specs.Rows.{AreOf}
+use Rattle.live_layout.specs.Encodes.{words_of}
 use Rattle.live_law.specs.Levels.{up, Spot, spot, name_of, Covers, place_at}
 use Rattle.live_law.specs.Views.{View, Own, locked}
 use Rattle.live_law.specs.Tree.{IsApart}

@@ -3,7 +3,7 @@ use Rattle.std.specs.Prelude.{◌≡◌, ℕ, suc, ◌+◌, ◌*◌, ◌<◌, �
 use Rattle.node_base.specs.declared.base_node.NodeType.{NodeType}
 use Rattle.node_table.specs.TableNode.{TableNode}
 use Rattle.spec_map.specs.Map.{Pairs, Rises, lookup}
-use Rattle.live_encodes.specs.Encodes.{Encodes}
+use Rattle.live_layout.specs.Encodes.{Encodes}
 use Rattle.live_law.specs.Levels.{Spot}
 use Rattle.live_law.specs.Views.{Own}
 use Rattle.live_copies.specs.inner.Told.{IsNoted, TellsNoted, Tells, first_of}

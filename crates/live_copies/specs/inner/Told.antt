@@ -5,7 +5,7 @@ use Rattle.node_table.specs.TableNode.{TableNode, Child}
 use Rattle.node_table.specs.declared.child.Child.TheVariants.{Payload, Node}
 use Rattle.live_nodes.specs.Nodes.{Content}
 use Rattle.live_nodes.specs.Seats.{IsIn}
-use Rattle.live_encodes.specs.Encodes.{Encodes}
+use Rattle.live_layout.specs.Encodes.{Encodes}
 use Rattle.live_law.specs.Levels.{digit, Shape, name_of, Covers, Spot}
 use Rattle.live_law.specs.Views.{Own, locked}
 

@@ -3,7 +3,7 @@
 //! Tested in `test_live_faces`.
 ghost use Rattle.std.specs.Prelude.{◌≡◌, IfOk, IfErr, OnErr, unwrap_or};
 ghost use Rattle.live_updates.specs.Refusals.{FoundNone, Refused};
-ghost use Rattle.live_computes.specs.Entries.{sum_with};
+ghost use Rattle.live_updates.specs.ClosureEntries.{sum_with};
 ghost use Rattle.live_faces.specs.Returned.{ReturnsComputed};
 
 use super::{Congee, Guard, Refusal, read_back};

@@ -2,8 +2,8 @@
 ghost use Rattle.std.specs.Prelude.{◌≡◌, IfOk, IfErr, IfSome, OnErr};
 ghost use Rattle.live_updates.specs.Refusals.{FoundNone, Refused};
 ghost use Rattle.live_law.specs.Known.{MadeCall};
-ghost use Rattle.live_computes.specs.Closures.{Reaches, EndsWithCall};
-ghost use Rattle.live_computes.specs.Entries.{computed_with};
+ghost use Rattle.live_updates.specs.Closures.{Reaches, EndsWithCall};
+ghost use Rattle.live_updates.specs.ClosureEntries.{computed_with};
 ghost use Rattle.live_faces.specs.Returned.{ReturnsInserted};
 
 use super::{Busy, Congee, Guard, Refusal, read_back};

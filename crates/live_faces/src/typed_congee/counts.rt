@@ -5,11 +5,11 @@
 //! Tested in `test_live_faces`.
 ghost use Rattle.std.specs.Prelude.{◌≡◌, IfOk, OnErr};
 ghost use Rattle.live_scans.specs.Scans.{GaveUp, Waits};
-ghost use Rattle.live_counts.specs.Counts.{HasCounted, HasTested};
+ghost use Rattle.live_scans.specs.Counts.{HasCounted, HasTested};
 
 use super::{Busy, Congee, Guard};
 use crossbeam_utils::Backoff;
-use live_counts::counts;
+use live_scans::counts;
 use spec_map::traits::Word;
 use std::sync::Wait;
 

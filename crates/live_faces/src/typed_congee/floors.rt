@@ -11,7 +11,7 @@ ghost use Rattle.live_faces.specs.Returned.{ReturnsBefore, pair_of};
 use super::scans::pair_back;
 use super::{Busy, Congee, Guard};
 use crossbeam_utils::Backoff;
-use live_floors::floors;
+use live_scans::floors;
 use spec_map::traits::Word;
 use std::sync::Wait;
 

@@ -4,7 +4,7 @@ use Rattle.word_book.specs.Book.{Book, Name}
 use Rattle.live_nodes.specs.Seats.{SeatView}
 use Rattle.live_law.specs.Levels.{up, way}
 use Rattle.live_law.specs.Views.{View}
-use Rattle.live_calls.specs.Forks.{IsForked}
+use Rattle.live_reads.specs.Forks.{IsForked}
 
 -- The seat watches it. The bytes above it are the key's down to this height, and then this byte.
 pub record IsAside (v : SeatView View) (b : Book) (words : List Name) (taken name key height at byte : ℕ) : Type 0 where

@@ -6,13 +6,13 @@ use Rattle.word_book.specs.Book.{Book, Name}
 use Rattle.live_nodes.specs.Nodes.{Content}
 use Rattle.live_nodes.specs.Seats.{read, SeatView, IsIn, Agree}
 use Rattle.live_nodes.specs.Plays.{read_of}
-use Rattle.live_rows.specs.Rows.{AreOf}
-use Rattle.live_encodes.specs.Encodes.{Encodes, IsWord}
-use Rattle.live_order.specs.Order.{HasNearest}
+use Rattle.live_nodes.specs.Rows.{AreOf}
+use Rattle.live_layout.specs.Encodes.{Encodes, IsWord}
+use Rattle.live_layout.specs.Order.{HasNearest}
 use Rattle.live_law.specs.Levels.{up, digit, Shape, Spot, name_of, Covers, place_at}
 use Rattle.live_law.specs.Views.{View, Watch}
 use Rattle.live_law.specs.Tree.{IsOf}
-use Rattle.live_calls.specs.Ways.{Names, Sights, HasOpened, IsOpen}
+use Rattle.live_reads.specs.Ways.{Names, Sights, HasOpened, IsOpen}
 use Rattle.live_scans.specs.inner.Moments.{IsWithin, IsPassed, ReadsOn}
 use Rattle.live_scans.specs.declared.next.Turn.{Turn}
 use Rattle.live_scans.specs.declared.next.Turn.TheVariants.{Past, Goes}

@@ -2,8 +2,8 @@
 use Rattle.std.specs.Prelude.{◌≡◌, ◌⊎◌, ℕ, ◌%◌, ◌≤◌, [], Option, Some, None}
 use Rattle.live_nodes.specs.Seats.{SeatView}
 use Rattle.live_law.specs.Views.{View}
-use Rattle.live_calls.specs.Ways.{Names}
-use Rattle.live_calls.specs.Roots.{Begins}
+use Rattle.live_reads.specs.Ways.{Names}
+use Rattle.live_reads.specs.Roots.{Begins}
 use Rattle.live_scans.specs.inner.Moments.{IsPassed, ReadsOn}
 use Rattle.live_scans.specs.declared.seek.Stand.{Stand}
 use Rattle.live_scans.specs.declared.seek.Reach.{Reach}

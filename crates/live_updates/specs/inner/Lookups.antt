@@ -9,7 +9,7 @@ use Rattle.live_nodes.specs.Seats.{Place, SeatView}
 use Rattle.live_law.specs.Levels.{Spot}
 use Rattle.live_law.specs.Views.{Watch, View, view_of, Ask, ask, got}
 use Rattle.live_law.specs.Tree.{Answers, Parts, LearnsNode}
-use Rattle.live_calls.specs.Ways.{Names, Sights}
+use Rattle.live_reads.specs.Ways.{Names, Sights}
 use Rattle.live_updates.specs.Entries.{removed, swapped}
 use Rattle.live_updates.specs.declared.lookup.Site.{Site}
 use Rattle.live_updates.specs.declared.lookup.Site.TheVariants as sites

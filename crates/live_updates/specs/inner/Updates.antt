@@ -6,7 +6,7 @@ use Rattle.spec_map.specs.Map.{Pairs, lookup, with_answer}
 use Rattle.share_rule.specs.History.{Entry, IsHistory}
 use Rattle.live_nodes.specs.Nodes.{Content}
 use Rattle.live_nodes.specs.Seats.{SeatView}
-use Rattle.live_encodes.specs.Encodes.{Encodes, with_child}
+use Rattle.live_layout.specs.Encodes.{Encodes, with_child}
 use Rattle.live_law.specs.Views.{View, view_of}
 use Rattle.live_law.specs.Tree.{HasValue, Answers}
 use Rattle.live_updates.specs.declared.leaf.Missed.{Missed}

@@ -2,8 +2,8 @@
 
 ghost use Rattle.std.specs.Prelude.{◌≡◌};
 
-use live_calls::insert::descend;
 use live_pool::pool::Pool;
+use live_reads::descend::descend;
 use std::alloc::Global;
 use std::test::Fail;
 

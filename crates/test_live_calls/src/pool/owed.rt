@@ -2,11 +2,12 @@
 
 ghost use Rattle.std.specs.Prelude.{◌≡◌};
 
-use live_calls::held::{lock_node, unlock_same};
-use live_calls::insert::{descend, extend};
-use live_calls::map::Guard;
-use live_calls::way::words_at;
+use live_growth::held::{lock_node, unlock_same};
+use live_growth::insert::extend;
+use live_growth::map::Guard;
 use live_pool::pool::Pool;
+use live_reads::descend::descend;
+use live_reads::way::words_at;
 use std::alloc::Global;
 use std::test::Fail;
 use std::thread::{Threads, join};

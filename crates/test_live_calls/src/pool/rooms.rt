@@ -2,8 +2,8 @@
 
 ghost use Rattle.std.specs.Prelude.{◌≡◌};
 
-use live_calls::link::Room;
-use live_calls::map::Guard;
+use live_growth::link::Room;
+use live_growth::map::Guard;
 use live_pool::pool::Pool;
 use std::alloc::Global;
 use std::test::Fail;

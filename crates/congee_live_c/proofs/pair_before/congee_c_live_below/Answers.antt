@@ -1,5 +1,5 @@
 use Rattle.std.proofs.Common.{rules, arith, pos, ◌≡◌, IfOk, subst}
-use Rattle.live_floors.specs.Floors.{HasBefore}
+use Rattle.live_scans.specs.Floors.{HasBefore}
 use Rattle.std.proofs.lemmas.Grind.{common_steps}
 use Rattle.congee_live_c.proofs.pair_before.congee_c_live_below.Goals as goal
 

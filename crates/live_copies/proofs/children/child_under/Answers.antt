@@ -1,5 +1,5 @@
 use Rattle.std.proofs.Common.{rules, None, ◌≡◌, ◌∙◌}
-use Rattle.live_calls.proofs.Finds.{keeps_then, when_out}
+use Rattle.live_reads.proofs.Finds.{keeps_then, when_out}
 use Rattle.live_copies.specs.inner.Children.{IsChild}
 use Rattle.live_copies.proofs.Finding.{child_fits}
 use Rattle.live_copies.proofs.children.child_under.Goals as goal

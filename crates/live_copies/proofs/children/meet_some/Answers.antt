@@ -1,8 +1,8 @@
 use Rattle.std.proofs.Common.{rules, None, ◌≡◌, ◌≤◌, ◌∙◌, subst, refl}
-use Rattle.live_calls.specs.Ways.{Names}
-use Rattle.live_calls.specs.Sees.{HasMet}
-use Rattle.live_calls.specs.declared.sight.Sight.TheVariants as sights
-use Rattle.live_calls.proofs.Finds.{keeps_then, when_out}
+use Rattle.live_reads.specs.Ways.{Names}
+use Rattle.live_reads.specs.Sees.{HasMet}
+use Rattle.live_reads.specs.declared.sight.Sight.TheVariants as sights
+use Rattle.live_reads.proofs.Finds.{keeps_then, when_out}
 use Rattle.live_copies.proofs.Finding.{sights_on}
 use Rattle.live_copies.proofs.children.meet_some.Goals as goal
 

@@ -1,7 +1,7 @@
 use Rattle.std.proofs.Common.{rules, sym, subst, ap, Some, None, ◌≡◌, ◌∙◌, false}
 use Rattle.live_law.specs.Views.{View, ask}
-use Rattle.live_calls.specs.Ways.{Sights}
-use Rattle.live_calls.proofs.Finds.{keeps_then, looked_below, looked_none, looked_empty}
+use Rattle.live_reads.specs.Ways.{Sights}
+use Rattle.live_reads.proofs.Finds.{keeps_then, looked_below, looked_none, looked_empty}
 use Rattle.live_copies.proofs.children.name_under.Goals as goal
 
 pub returns-in-Some-Some : goal.returns-in-Some-Some

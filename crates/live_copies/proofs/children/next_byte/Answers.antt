@@ -1,10 +1,10 @@
 use Rattle.std.proofs.Common.{arith, ap, ◌∙◌}
-use Rattle.live_rows.specs.Rows.{last_saw}
-use Rattle.live_encodes.specs.Encodes.{words_of}
+use Rattle.live_nodes.specs.Rows.{last_saw}
+use Rattle.live_layout.specs.Encodes.{words_of}
 use Rattle.live_law.specs.Levels.{place_at}
 use Rattle.live_law.specs.Views.{View}
-use Rattle.live_calls.proofs.Finds.{keeps_then}
-use Rattle.live_calls.proofs.Views.{may_read_open, open_read, reading_on_keeps}
+use Rattle.live_reads.proofs.Finds.{keeps_then}
+use Rattle.live_reads.proofs.Views.{may_read_open, open_read, reading_on_keeps}
 use Rattle.live_copies.proofs.children.next_byte.Goals as goal
 
 pub nearest-found-requires : goal.nearest-found-requires

@@ -1,5 +1,5 @@
 use Rattle.std.proofs.Common.{◌∙◌}
-use Rattle.live_calls.proofs.Finds.{keeps_then}
+use Rattle.live_reads.proofs.Finds.{keeps_then}
 use Rattle.live_copies.proofs.Finding.{sights_on}
 use Rattle.live_copies.proofs.children.next_child.Goals as goal
 

@@ -1,5 +1,5 @@
 use Rattle.std.proofs.Common.{◌≡◌}
-use Rattle.live_calls.specs.Ways.{Keeps}
+use Rattle.live_reads.specs.Ways.{Keeps}
 use Rattle.live_copies.proofs.children.next_child.Given as goal
 
 abbrev pub invariant-loop : goal.invariant-loop

@@ -1,5 +1,5 @@
 use Rattle.std.proofs.Common.{rules, sym, subst, ℕ, ◌≤◌, ◌∙◌}
-use Rattle.live_calls.proofs.Finds.{keeps_then}
+use Rattle.live_reads.proofs.Finds.{keeps_then}
 use Rattle.live_copies.proofs.Finding.{sights_on}
 use Rattle.live_copies.proofs.children.try_next.Goals as goal
 

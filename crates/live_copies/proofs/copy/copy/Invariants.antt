@@ -1,6 +1,6 @@
 use Rattle.std.proofs.Common.{◌≡◌}
-use Rattle.live_calls.specs.Ways.{Names}
-use Rattle.live_calls.specs.Calls.{known_of, IsReady}
+use Rattle.live_reads.specs.Ways.{Names}
+use Rattle.live_growth.specs.Calls.{known_of, IsReady}
 use Rattle.live_scans.specs.Scans.{HasBegun}
 use Rattle.live_copies.proofs.copy.copy.Given as goal
 

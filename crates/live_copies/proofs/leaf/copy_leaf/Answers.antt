@@ -1,7 +1,7 @@
 use Rattle.std.proofs.Common.{rules, ◌≡◌, ℕ, ◌+◌, ◌-◌, ◌%◌, ◌++◌, List, length, take, drop, sym, ap, subst, ◌∙◌}
-use Rattle.live_rows.specs.Rows.{nth, draft_of}
-use Rattle.live_encodes.specs.Encodes.{words_of}
-use Rattle.live_order.specs.Page.{AreListed, pairs_of}
+use Rattle.live_nodes.specs.Rows.{nth, draft_of}
+use Rattle.live_layout.specs.Encodes.{words_of}
+use Rattle.live_layout.specs.Page.{AreListed, pairs_of}
 use Rattle.live_copies.specs.inner.Locks.{Takes}
 use Rattle.live_copies.proofs.Leaves.{taken_holds, taken_draft, leaf_takes}
 use Rattle.live_copies.proofs.leaf.copy_leaf.Goals as goal

@@ -1,5 +1,5 @@
 use Rattle.std.proofs.Common.{rules, subst, sym, refl, [], ◌∷◌, ◌++◌, ◌≡◌, ◌∙◌}
-use Rattle.live_calls.specs.Ways.{AreNamed}
+use Rattle.live_reads.specs.Ways.{AreNamed}
 use Rattle.live_copies.specs.declared.locks.Lock.{Lock}
 use Rattle.live_copies.specs.inner.Locks.{HasLocks}
 use Rattle.live_copies.proofs.Locking.{locks_top, locks_more, locked_grows, locked_taken}

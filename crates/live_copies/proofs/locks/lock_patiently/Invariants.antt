@@ -1,5 +1,5 @@
 use Rattle.std.proofs.Common.{◌≡◌}
-use Rattle.live_calls.specs.Holds.{Alike}
+use Rattle.live_growth.specs.Holds.{Alike}
 use Rattle.live_copies.proofs.locks.lock_patiently.Given as goal
 
 abbrev pub invariant-loop : goal.invariant-loop

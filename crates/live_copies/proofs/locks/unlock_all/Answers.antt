@@ -1,5 +1,5 @@
 use Rattle.std.proofs.Common.{rules, [], ◌∷◌, ◌++◌, ◌≡◌, ◌∙◌}
-use Rattle.live_calls.proofs.Locks.{alike_then}
+use Rattle.live_growth.proofs.Locks.{alike_then}
 use Rattle.live_copies.proofs.Locking.{locks_last, locks_less, locks_none}
 use Rattle.live_copies.proofs.locks.unlock_all.Goals as goal
 

@@ -1,5 +1,5 @@
 use Rattle.std.proofs.Common.{◌≡◌, vec_len}
-use Rattle.live_calls.specs.Holds.{Alike}
+use Rattle.live_growth.specs.Holds.{Alike}
 use Rattle.live_copies.specs.inner.Locks.{HasLocks}
 use Rattle.live_copies.proofs.locks.unlock_all.Given as goal
 

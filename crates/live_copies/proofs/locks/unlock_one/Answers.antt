@@ -4,8 +4,8 @@ use Rattle.live_law.specs.Levels.{place_at}
 use Rattle.live_law.specs.Views.{View}
 use Rattle.live_law.specs.Tree.{StaysSame}
 use Rattle.live_law.proofs.Writes.{node_stays}
-use Rattle.live_calls.proofs.Views.{first_word}
-use Rattle.live_calls.proofs.Again.{first_frees, first_freed}
+use Rattle.live_reads.proofs.Views.{first_word}
+use Rattle.live_growth.proofs.Again.{first_frees, first_freed}
 use Rattle.live_copies.specs.inner.Locks.{own_of, holds_of}
 use Rattle.live_copies.proofs.Locking.{beside}
 use Rattle.live_copies.proofs.locks.unlock_one.Goals as goal

@@ -1,6 +1,6 @@
 use Rattle.std.proofs.Common.{rules, arith, ◌≡◌, Some, None, sym, ap, subst, ◌∙◌}
 use Rattle.spec_map.specs.Map.{lookup}
-use Rattle.live_encodes.specs.Encodes.{IsBelow}
+use Rattle.live_layout.specs.Encodes.{IsBelow}
 use Rattle.live_copies.proofs.Told.{named_word, named_absent}
 use Rattle.live_copies.proofs.names.has_child.Goals as goal
 

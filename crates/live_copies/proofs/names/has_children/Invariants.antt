@@ -1,5 +1,5 @@
 use Rattle.std.proofs.Common.{ℕ, ◌<◌, slice_index}
-use Rattle.live_cells.specs.Words.{Looks}
+use Rattle.live_layout.specs.Words.{Looks}
 use Rattle.live_copies.specs.inner.Noted.{HasNamed}
 use Rattle.live_copies.proofs.names.has_children.Given as goal
 

@@ -1,6 +1,6 @@
 use Rattle.std.proofs.Common.{rules, sym, ap, subst, length, ℕ, List, ◌∙◌}
-use Rattle.live_rows.specs.Rows.{nth, draft_of}
-use Rattle.live_encodes.specs.Encodes.{words_of}
+use Rattle.live_nodes.specs.Rows.{nth, draft_of}
+use Rattle.live_layout.specs.Encodes.{words_of}
 use Rattle.live_copies.specs.inner.Locks.{HasTold}
 use Rattle.live_copies.proofs.Leaves.{taken_holds, taken_draft}
 use Rattle.live_copies.proofs.Walking.{taken_told}

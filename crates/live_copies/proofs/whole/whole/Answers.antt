@@ -2,7 +2,7 @@ use Rattle.std.proofs.Common.{rules, ◌≡◌, ◌≢◌, sym, subst, ap, ◌�
 use mathlib.Core.Logic.{dite}
 use native.Mathlib.Decide.{ℕ_discrete}
 use Rattle.word_book.specs.Book.{Name}
-use Rattle.live_calls.proofs.Views.{trunk_place}
+use Rattle.live_reads.proofs.Views.{trunk_place}
 use Rattle.live_copies.specs.inner.Whole.{HasWhole}
 use Rattle.live_copies.proofs.Wholes.{taken_keeps, may_whole, whole_missed, whole_hit}
 use Rattle.live_copies.proofs.whole.whole.Goals as goal

@@ -1,7 +1,7 @@
 use Rattle.std.proofs.Common.{rules, sym, ap, subst, length, ℕ, List, ◌≡◌, ◌∙◌}
-use Rattle.live_encodes.specs.Encodes.{words_of}
-use Rattle.live_calls.specs.Holds.{HasRest}
-use Rattle.live_calls.proofs.Pairs.{pair_first, first_draft}
+use Rattle.live_layout.specs.Encodes.{words_of}
+use Rattle.live_growth.specs.Holds.{HasRest}
+use Rattle.live_growth.proofs.Pairs.{pair_first, first_draft}
 use Rattle.live_detach.specs.Two.{PartsTwo}
 use Rattle.live_detach.specs.declared.narrow.Fill.TheVariants.{Empty}
 use Rattle.live_detach.proofs.Twos.{as_pair, none_counted, rest_keeps}

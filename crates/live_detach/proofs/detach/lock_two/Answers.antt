@@ -1,13 +1,13 @@
 use Rattle.std.proofs.Common.{rules, sym, ap, subst, length, ℕ, Some, List, ◌∷◌, ◌≡◌, ◌+◌, ◌∙◌}
 use Rattle.live_nodes.specs.Nodes.{Content}
 use Rattle.live_nodes.specs.Seats.{Each, Hold, hold}
-use Rattle.live_encodes.specs.Encodes.{words_of}
+use Rattle.live_layout.specs.Encodes.{words_of}
 use Rattle.node_base.specs.declared.base_node.NodeType.{NodeType}
 use Rattle.live_law.specs.Views.{Own, locked}
 use Rattle.live_law.specs.Tree.{IsApart}
-use Rattle.live_calls.specs.Ways.{AreNamed}
-use Rattle.live_calls.specs.Holds.{HasLocked, HasWordOf, HoldsOne}
-use Rattle.live_calls.proofs.Locks.{taken_by, holds_one, may_hold, draft_is, alike_then}
+use Rattle.live_reads.specs.Ways.{AreNamed}
+use Rattle.live_growth.specs.Holds.{HasLocked, HasWordOf, HoldsOne}
+use Rattle.live_growth.proofs.Locks.{taken_by, holds_one, may_hold, draft_is, alike_then}
 use Rattle.live_detach.proofs.Twos.{is_held, held_on}
 use Rattle.live_detach.proofs.detach.lock_two.Goals as goal
 

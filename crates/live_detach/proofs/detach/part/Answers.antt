@@ -3,15 +3,15 @@ use Rattle.node_table.specs.TableNode.{TableNode}
 use Rattle.node_table.specs.declared.child.Child.TheVariants.{Node}
 use Rattle.spec_map.specs.Map.{lookup}
 use Rattle.live_nodes.specs.Seats.{SeatView, Place, IsIn}
-use Rattle.live_rows.specs.Rows.{AreOf, draft_of, nth}
-use Rattle.live_encodes.specs.Encodes.{words_of, Encodes, IsBelow, IsWord, IsCounted}
+use Rattle.live_nodes.specs.Rows.{AreOf, draft_of, nth}
+use Rattle.live_layout.specs.Encodes.{words_of, Encodes, IsBelow, IsWord, IsCounted}
 use Rattle.live_law.specs.Levels.{digit, place_at}
 use Rattle.live_law.specs.Views.{View, rest_of}
 use Rattle.live_law.specs.Tree.{StaysSame}
 use Rattle.live_law.proofs.Writes.{node_retires}
-use Rattle.live_calls.proofs.Grips.{Grips, grip_frees, grip_freed}
-use Rattle.live_calls.proofs.Views.{first_word}
-use Rattle.live_calls.proofs.Pairs.{Pair, pair_second, pair_wrote, pair_frees, pair_freed, second_draft, few_counted}
+use Rattle.live_growth.proofs.Grips.{Grips, grip_frees, grip_freed}
+use Rattle.live_reads.proofs.Views.{first_word}
+use Rattle.live_growth.proofs.Pairs.{Pair, pair_second, pair_wrote, pair_frees, pair_freed, second_draft, few_counted}
 use Rattle.live_detach.specs.Unlinks.{Unlinks, left_out}
 use Rattle.live_detach.proofs.Unlinks.{Loses, unlink}
 use Rattle.live_detach.proofs.Twos.{as_pair, loses}

@@ -4,8 +4,8 @@ use Rattle.live_law.specs.Levels.{place_at}
 use Rattle.live_law.specs.Views.{View, locked, rest_of}
 use Rattle.live_law.specs.Tree.{StaysSame}
 use Rattle.live_law.proofs.Writes.{node_stays}
-use Rattle.live_calls.proofs.Views.{first_word}
-use Rattle.live_calls.proofs.Locks.{alike_then}
+use Rattle.live_reads.proofs.Views.{first_word}
+use Rattle.live_growth.proofs.Locks.{alike_then}
 use Rattle.live_detach.proofs.Twos.{first_frees, first_freed, held_on}
 use Rattle.live_detach.proofs.detach.unlock_two.Goals as goal
 

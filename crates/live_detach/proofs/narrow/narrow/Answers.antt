@@ -2,14 +2,14 @@ use Rattle.std.proofs.Common.{rules, sym, ap, subst, length, â„•, None, List, â—
 use Rattle.node_base.specs.Form.{limit, smaller_form}
 use Rattle.node_base.specs.declared.base_node.NodeType.{NodeType}
 use Rattle.node_base.specs.declared.base_node.NodeType.TheVariants.{N4}
-use Rattle.live_encodes.specs.Encodes.{words_of, counted, most}
+use Rattle.live_layout.specs.Encodes.{words_of, counted, most}
 use Rattle.live_law.specs.Views.{View}
-use Rattle.live_calls.specs.Ways.{AreNamed}
-use Rattle.live_calls.specs.Holds.{Alike}
-use Rattle.live_calls.proofs.Linked.{when_none}
-use Rattle.live_calls.proofs.Locks.{alike_then}
-use Rattle.live_calls.proofs.Pairs.{pair_first, first_draft}
-use Rattle.live_calls.proofs.Spares.{one_form}
+use Rattle.live_reads.specs.Ways.{AreNamed}
+use Rattle.live_growth.specs.Holds.{Alike}
+use Rattle.live_growth.proofs.Linked.{when_none}
+use Rattle.live_growth.proofs.Locks.{alike_then}
+use Rattle.live_growth.proofs.Pairs.{pair_first, first_draft}
+use Rattle.live_growth.proofs.Spares.{one_form}
 use Rattle.live_detach.specs.declared.narrow.Fill.TheVariants.{Few}
 use Rattle.live_detach.proofs.Twos.{as_pair}
 use Rattle.live_detach.proofs.Threes.{two_on, lead_on, few_fit, rest_grown, alike_grown}

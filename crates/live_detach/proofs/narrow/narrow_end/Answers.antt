@@ -1,6 +1,6 @@
 use Rattle.std.proofs.Common.{◌∙◌}
-use Rattle.live_calls.proofs.Ready.{ready_kept, ready_again, ready_spare, sights_grown}
-use Rattle.live_calls.proofs.Sights.{sights_kept}
+use Rattle.live_growth.proofs.Ready.{ready_kept, ready_again, ready_spare, sights_grown}
+use Rattle.live_reads.proofs.Sights.{sights_kept}
 use Rattle.live_detach.proofs.narrow.narrow_end.Goals as goal
 
 pub returns-in_default : goal.returns-in_default

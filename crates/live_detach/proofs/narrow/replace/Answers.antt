@@ -5,19 +5,19 @@ use Rattle.node_table.specs.TableNode.{TableNode, Child}
 use Rattle.node_table.specs.declared.child.Child.TheVariants.{Node}
 use Rattle.spec_map.specs.Map.{lookup}
 use Rattle.live_nodes.specs.Seats.{SeatView, Place, IsIn, hold}
-use Rattle.live_rows.specs.Rows.{AreOf, draft_of, nth}
-use Rattle.live_encodes.specs.Encodes.{words_of, counted, most, Encodes, IsBelow, IsWord, in_form}
+use Rattle.live_nodes.specs.Rows.{AreOf, draft_of, nth}
+use Rattle.live_layout.specs.Encodes.{words_of, counted, most, Encodes, IsBelow, IsWord, in_form}
 use Rattle.live_law.specs.Levels.{up, digit, place_at}
 use Rattle.live_law.specs.Views.{View, Own, outgrown, rest_of}
 use Rattle.live_law.specs.Tree.{LinksAgain, StaysSame, again, left_again}
 use Rattle.live_law.proofs.Joins.{link_grown_again}
 use Rattle.live_law.proofs.Writes.{node_stays, node_retires}
-use Rattle.live_calls.proofs.Views.{first_word}
-use Rattle.live_calls.proofs.Grips.{Grips, grip_frees, grip_freed}
-use Rattle.live_calls.proofs.Pairs.{change_done, at_result, grown_changes}
-use Rattle.live_calls.proofs.Again.{first_frees, first_freed}
-use Rattle.live_calls.proofs.Sources.{source_apart}
-use Rattle.live_calls.proofs.Triples.{triple_regained, triple_first, triple_second, triple_third, triple_drafts, triple_filled, triple_wrote, triple_frees, triple_freed, regrown}
+use Rattle.live_reads.proofs.Views.{first_word}
+use Rattle.live_growth.proofs.Grips.{Grips, grip_frees, grip_freed}
+use Rattle.live_growth.proofs.Pairs.{change_done, at_result, grown_changes}
+use Rattle.live_growth.proofs.Again.{first_frees, first_freed}
+use Rattle.live_growth.proofs.Sources.{source_apart}
+use Rattle.live_growth.proofs.Triples.{triple_regained, triple_first, triple_second, triple_third, triple_drafts, triple_filled, triple_wrote, triple_frees, triple_freed, regrown}
 use Rattle.live_detach.proofs.Twos.{as_pair}
 use Rattle.live_detach.proofs.narrow.replace.Goals as goal
 

@@ -1,4 +1,4 @@
-use Rattle.live_rows.specs.Rows.{nth, draft_of}
+use Rattle.live_nodes.specs.Rows.{nth, draft_of}
 use Rattle.live_detach.proofs.narrow.replace.Given as goal
 
 abbrev pub ghosts-unlock_again : goal.ghosts-unlock_again

@@ -1,7 +1,7 @@
 use Rattle.std.proofs.Common.{Result, Ok, Err, IfOk, sym, subst, ◌∙◌}
-use Rattle.live_calls.specs.Ways.{Sights}
-use Rattle.live_calls.proofs.Finds.{keeps_then}
-use Rattle.live_calls.proofs.Sights.{sights_names, sights_kept}
+use Rattle.live_reads.specs.Ways.{Sights}
+use Rattle.live_reads.proofs.Finds.{keeps_then}
+use Rattle.live_reads.proofs.Sights.{sights_names, sights_kept}
 use Rattle.live_detach.proofs.tidy.detach_one.Goals as goal
 
 if_ok : {A E : Type 0} (P Q : A → Type 0) (r : Result A E) → ((x : A) → P x → Q x) → IfOk r P → IfOk r Q

@@ -1,5 +1,5 @@
 use Rattle.std.proofs.Common.{Some, ◌∙◌}
-use Rattle.live_calls.proofs.Ready.{ready_kept, ready_owed, ready_spare}
+use Rattle.live_growth.proofs.Ready.{ready_kept, ready_owed, ready_spare}
 use Rattle.live_detach.proofs.tidy.tidy.Goals as goal
 
 pub returns-then-room-ne0 : goal.returns-then-room-ne0

@@ -1,4 +1,4 @@
-use Rattle.live_calls.proofs.Ready.{ready_owed}
+use Rattle.live_growth.proofs.Ready.{ready_owed}
 use Rattle.live_pool.proofs.upkeep.owe.Goals as goal
 
 pub invariant_of-guard : goal.invariant_of-guard

@@ -1,7 +1,7 @@
 use Rattle.std.proofs.Common.{arith, ap, subst, sym, ◌≡◌, ℕ, ◌+◌, ◌-◌, ◌*◌, min}
-use Rattle.live_cells.specs.Words.{lane}
-use Rattle.live_cells.specs.ListCells.{count, key}
-use Rattle.live_cells.proofs.Seats.{stays-then}
+use Rattle.live_layout.specs.Words.{lane}
+use Rattle.live_layout.specs.ListCells.{count, key}
+use Rattle.live_layout.proofs.Seats.{stays-then}
 use Rattle.live_scans.specs.inner.Afters.{IsLeast}
 use Rattle.live_scans.proofs.Joints.{best_of}
 use Rattle.live_scans.proofs.after.first_place.Goals as goal

@@ -1,7 +1,7 @@
 use Rattle.std.proofs.Common.{◌≡◌, ℕ, ◌-◌, ◌*◌, ◌≤◌, min, List}
-use Rattle.live_cells.specs.Words.{Stays}
-use Rattle.live_cells.specs.ListCells.{count, key}
-use Rattle.live_order.specs.inner.Best.{IsBest}
+use Rattle.live_layout.specs.Words.{Stays}
+use Rattle.live_layout.specs.ListCells.{count, key}
+use Rattle.live_layout.specs.inner.Best.{IsBest}
 use Rattle.live_scans.proofs.after.first_place.Given as goal
 
 abbrev pub invariant-loop-w : goal.invariant-loop-w

@@ -4,8 +4,8 @@ use Rattle.std.specs.Int.RustNames.{bit_and}
 use Rattle.std.specs.Int.Count.{count_trailing_zeros}
 use Rattle.std.proofs.lemmas.Bool.{cases_lt}
 use Rattle.std.proofs.lemmas.Nat.Bits.{bit_at-trailing_zeros}
-use Rattle.live_cells.specs.Words.{lane}
-use Rattle.live_cells.proofs.LaneLaws.{powers_rise, mask_is, bit_inside, set_inside}
+use Rattle.live_layout.specs.Words.{lane}
+use Rattle.live_layout.proofs.LaneLaws.{powers_rise, mask_is, bit_inside, set_inside}
 use Rattle.live_scans.proofs.Leasts.{zero_one, one_more, smaller, none_left}
 use Rattle.live_scans.proofs.after.least_lane.Goals as goal
 

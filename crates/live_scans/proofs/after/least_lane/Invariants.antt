@@ -1,4 +1,4 @@
-use Rattle.live_cells.specs.Words.{lane}
+use Rattle.live_layout.specs.Words.{lane}
 use Rattle.live_scans.proofs.Leasts.{IsLeft, limit_of}
 use Rattle.live_scans.proofs.after.least_lane.Given as goal
 

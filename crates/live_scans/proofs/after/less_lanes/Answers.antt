@@ -2,7 +2,7 @@ use Rattle.std.proofs.Common.{rules, arith, ap, get_or, length, nat_lt, w8, ℕ,
 use Rattle.std.specs.Int.{bit_at}
 use Rattle.std.proofs.lemmas.Bool.{lt-ltb, le-ltb}
 use Rattle.std.proofs.lemmas.Simd.{bitmask_splat}
-use Rattle.live_cells.specs.Words.{lane}
+use Rattle.live_layout.specs.Words.{lane}
 use Rattle.live_scans.proofs.Afters.{lane_set, lane_clear}
 use Rattle.live_scans.proofs.after.less_lanes.Goals as goal
 

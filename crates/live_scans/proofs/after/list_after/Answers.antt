@@ -1,11 +1,11 @@
 use Rattle.std.proofs.Common.{rules, ap, subst, sym, ◌≡◌, ℕ, ◌+◌, ◌∙◌, Option, Some, None, true}
 use Rattle.node_base.specs.Form.{limit}
-use Rattle.live_cells.specs.Words.{at}
-use Rattle.live_cells.specs.ListCells.{count, key}
-use Rattle.live_order.specs.Order.{HasNearest}
-use Rattle.live_order.specs.inner.Best.{IsBest}
-use Rattle.live_order.proofs.BestLaws.{list_none, list_some}
-use Rattle.live_order.proofs.ChildLaws.{nearest_child}
+use Rattle.live_layout.specs.Words.{at}
+use Rattle.live_layout.specs.ListCells.{count, key}
+use Rattle.live_layout.specs.Order.{HasNearest}
+use Rattle.live_layout.specs.inner.Best.{IsBest}
+use Rattle.live_layout.proofs.BestLaws.{list_none, list_some}
+use Rattle.live_layout.proofs.ChildLaws.{nearest_child}
 use Rattle.live_scans.proofs.after.list_after.Goals as goal
 
 pub returns-in_err-byte-clause-is : goal.returns-in_err-byte-clause-is

@@ -1,7 +1,7 @@
 use Rattle.std.proofs.Common.{rules, arith, ap, get_or, length, ℕ, ◌≡◌, ◌<◌, ◌≤◌, ◌∙◌, ◌∷◌, [], sym, subst}
 use Rattle.std.proofs.lemmas.Bool.{le-leb, lt-leb}
 use lib.Dec.{leb}
-use Rattle.live_cells.specs.Words.{lane}
+use Rattle.live_layout.specs.Words.{lane}
 use Rattle.live_scans.proofs.Afters.{both_set, both_clear, same_byte}
 use Rattle.live_scans.proofs.after.more_lanes.Goals as goal
 

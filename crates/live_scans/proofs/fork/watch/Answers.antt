@@ -6,19 +6,19 @@ use Rattle.word_book.specs.Book.{reads, none_joined}
 use Rattle.live_nodes.specs.Plays.{Checks}
 use Rattle.live_nodes.specs.Calls.{MayCheck}
 use Rattle.live_nodes.specs.Seats.{Agree}
-use Rattle.live_rows.specs.Rows.{AreOf, last_saw}
-use Rattle.live_encodes.specs.Encodes.{words_of, IsBelow, IsWord, Encodes}
+use Rattle.live_nodes.specs.Rows.{AreOf, last_saw}
+use Rattle.live_layout.specs.Encodes.{words_of, IsBelow, IsWord, Encodes}
 use Rattle.live_law.specs.Levels.{place_at}
 use Rattle.live_law.specs.Views.{View}
 use Rattle.live_law.specs.Tree.{IsMap, LearnsBelow}
-use Rattle.live_calls.specs.Forks.{first_number}
-use Rattle.live_calls.specs.Sees.{Sees}
-use Rattle.live_cells.specs.Head.{IsHead}
-use Rattle.live_calls.specs.declared.sight.Sight.TheVariants as sights
-use Rattle.live_calls.proofs.Finds.{keeps_then}
-use Rattle.live_calls.proofs.Views.{first_word, may_read_open, open_long, open_read, reading_on_keeps}
-use Rattle.live_calls.proofs.Sights.{sights_kept}
-use Rattle.live_calls.proofs.Forks.{may_watch, watch_missed, watch_keeps}
+use Rattle.live_reads.specs.Forks.{first_number}
+use Rattle.live_reads.specs.Sees.{Sees}
+use Rattle.live_layout.specs.Head.{IsHead}
+use Rattle.live_reads.specs.declared.sight.Sight.TheVariants as sights
+use Rattle.live_reads.proofs.Finds.{keeps_then}
+use Rattle.live_reads.proofs.Views.{first_word, may_read_open, open_long, open_read, reading_on_keeps}
+use Rattle.live_reads.proofs.Sights.{sights_kept}
+use Rattle.live_reads.proofs.Forks.{may_watch, watch_missed, watch_keeps}
 use Rattle.live_scans.specs.inner.Forks.{IsAside}
 use Rattle.live_scans.proofs.Forks.{watch_asides}
 use Rattle.live_scans.proofs.fork.watch.Goals as goal

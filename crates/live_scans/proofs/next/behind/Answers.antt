@@ -1,9 +1,9 @@
 use Rattle.std.proofs.Common.{rules, arith, refl, sym, ap, subst, ◌+◌, ◌/◌}
 use Rattle.live_nodes.specs.Seats.{Agree}
-use Rattle.live_rows.specs.Rows.{last_saw}
+use Rattle.live_nodes.specs.Rows.{last_saw}
 use Rattle.live_law.specs.Levels.{place_at}
 use Rattle.live_law.specs.Views.{View}
-use Rattle.live_calls.proofs.Views.{first_word}
+use Rattle.live_reads.proofs.Views.{first_word}
 use Rattle.live_scans.specs.inner.Moments.{IsRead, IsWithin, IsPassed}
 use Rattle.live_scans.proofs.Wholes.{may_whole, whole_missed, whole_hit}
 use Rattle.live_scans.proofs.Passes.{seen_equal}

@@ -1,6 +1,6 @@
 use Rattle.std.proofs.Common.{rules, sym, subst, ◌≡◌, ◌∙◌, ℕ, List, None}
 use Rattle.share_rule.specs.History.{Entry}
-use Rattle.live_calls.proofs.Finds.{keeps_then}
+use Rattle.live_reads.proofs.Finds.{keeps_then}
 use Rattle.live_scans.specs.inner.Moments.{SeesMore, HasNone}
 use Rattle.live_scans.specs.inner.Nexts.{IsOutside, Turns}
 use Rattle.live_scans.proofs.Passes.{seen_equal, seen_since}

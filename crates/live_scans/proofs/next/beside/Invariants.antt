@@ -1,6 +1,6 @@
 use Rattle.std.proofs.Common.{Some, false}
 use Rattle.live_law.specs.Views.{ask}
-use Rattle.live_calls.specs.Forks.{first_number}
+use Rattle.live_reads.specs.Forks.{first_number}
 use Rattle.live_scans.proofs.next.beside.Given as goal
 
 abbrev pub ghosts-meet_under : goal.ghosts-meet_under

@@ -1,5 +1,5 @@
 use Rattle.std.proofs.Common.{◌∙◌}
-use Rattle.live_calls.proofs.Finds.{keeps_then}
+use Rattle.live_reads.proofs.Finds.{keeps_then}
 use Rattle.live_scans.proofs.Passes.{seen_equal, seen_since}
 use Rattle.live_scans.proofs.Nexts.{turns_since}
 use Rattle.live_scans.proofs.next.next_turn.Goals as goal

@@ -1,11 +1,11 @@
 use Rattle.std.proofs.Common.{arith, sym, ap, subst, ◌∙◌, true}
 use Rattle.live_nodes.specs.Seats.{Agree}
-use Rattle.live_rows.specs.Rows.{last_saw}
-use Rattle.live_order.specs.Order.{HasNearest}
-use Rattle.live_encodes.specs.Encodes.{words_of}
+use Rattle.live_nodes.specs.Rows.{last_saw}
+use Rattle.live_layout.specs.Order.{HasNearest}
+use Rattle.live_layout.specs.Encodes.{words_of}
 use Rattle.live_law.specs.Views.{View}
-use Rattle.live_calls.proofs.Finds.{keeps_then}
-use Rattle.live_calls.proofs.Views.{may_read_open, open_read, reading_on_keeps}
+use Rattle.live_reads.proofs.Finds.{keeps_then}
+use Rattle.live_reads.proofs.Views.{may_read_open, open_read, reading_on_keeps}
 use Rattle.live_scans.proofs.Nexts.{near_read}
 use Rattle.live_scans.proofs.next.open_near.Goals as goal
 

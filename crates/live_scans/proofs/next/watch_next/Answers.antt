@@ -1,19 +1,19 @@
 use Rattle.std.proofs.Common.{rules, arith, refl, sym, ap, subst, get_or, ℕ, List, Option, ◌/◌, ◌≡◌, ◌∙◌}
 use Rattle.word_book.specs.Book.{reads, none_joined}
 use Rattle.node_table.specs.declared.child.Child.TheVariants.{Node}
-use Rattle.live_encodes.specs.Encodes.{IsWord}
+use Rattle.live_layout.specs.Encodes.{IsWord}
 use Rattle.live_nodes.specs.Plays.{Checks}
 use Rattle.live_nodes.specs.Calls.{MayCheck}
 use Rattle.live_law.specs.Levels.{place_at}
 use Rattle.live_law.specs.Views.{View}
 use Rattle.live_law.specs.Tree.{IsMap, LearnsBelow}
-use Rattle.live_cells.specs.Head.{IsHead}
-use Rattle.live_calls.specs.Ways.{Sights}
-use Rattle.live_calls.specs.Sees.{Sees}
-use Rattle.live_calls.specs.Forks.{first_number}
-use Rattle.live_calls.specs.declared.sight.Sight.TheVariants as sights
-use Rattle.live_calls.proofs.Finds.{keeps_then}
-use Rattle.live_calls.proofs.Views.{first_word, may_read_open, open_long}
+use Rattle.live_layout.specs.Head.{IsHead}
+use Rattle.live_reads.specs.Ways.{Sights}
+use Rattle.live_reads.specs.Sees.{Sees}
+use Rattle.live_reads.specs.Forks.{first_number}
+use Rattle.live_reads.specs.declared.sight.Sight.TheVariants as sights
+use Rattle.live_reads.proofs.Finds.{keeps_then}
+use Rattle.live_reads.proofs.Views.{first_word, may_read_open, open_long}
 use Rattle.live_scans.proofs.Nexts.{may_watch_next, next_missed, next_keeps, next_is}
 use Rattle.live_scans.proofs.next.watch_next.Goals as goal
 

@@ -1,8 +1,8 @@
 use Rattle.std.proofs.Common.{rules, arith, refl, inl, inr, None, true, ◌≡◌, ◌∙◌}
 use Rattle.std.proofs.lemmas.List.{length-map}
 use Rattle.live_nodes.specs.Seats.{place}
-use Rattle.live_calls.proofs.Finds.{keeps_then, when_out}
-use Rattle.live_order.specs.Page.{pairs_of}
+use Rattle.live_reads.proofs.Finds.{keeps_then, when_out}
+use Rattle.live_layout.specs.Page.{pairs_of}
 use Rattle.live_scans.specs.inner.Steps.{IsPage}
 use Rattle.live_scans.proofs.Composed.{more_same, nothing_read}
 use Rattle.live_scans.proofs.Passes.{keeps_same, seen_since, page_step}

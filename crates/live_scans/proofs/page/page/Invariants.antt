@@ -1,7 +1,7 @@
 use Rattle.std.proofs.Common.{◌≡◌, ◌⊎◌, ◌+◌, ◌-◌, ◌%◌, ◌<◌, ◌≤◌, true, take, length, IfSome}
 use Rattle.live_scans.specs.inner.Moments.{SeesMore}
-use Rattle.live_calls.specs.Ways.{Keeps}
-use Rattle.live_order.specs.Page.{pairs_of}
+use Rattle.live_reads.specs.Ways.{Keeps}
+use Rattle.live_layout.specs.Page.{pairs_of}
 use Rattle.live_scans.specs.Scans.{HasRead}
 use Rattle.live_scans.specs.inner.Stops.{IsStand}
 use Rattle.live_scans.proofs.page.page.Given as goal

@@ -1,7 +1,7 @@
 use Rattle.std.proofs.Common.{◌∙◌}
 use Rattle.live_nodes.specs.Seats.{place}
-use Rattle.live_calls.proofs.Finds.{keeps_then}
-use Rattle.live_order.specs.Page.{pairs_of}
+use Rattle.live_reads.proofs.Finds.{keeps_then}
+use Rattle.live_layout.specs.Page.{pairs_of}
 use Rattle.live_scans.proofs.Passes.{seen_since, step_since}
 use Rattle.live_scans.proofs.page.read_on.Goals as goal
 

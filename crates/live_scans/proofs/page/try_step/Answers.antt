@@ -1,7 +1,7 @@
 use Rattle.std.proofs.Common.{rules, arith, refl, subst, None, ◌≡◌, ◌+◌, ◌∙◌}
 use Rattle.std.proofs.lemmas.List.{length-map}
-use Rattle.live_calls.proofs.Finds.{keeps_then, when_out}
-use Rattle.live_order.specs.Page.{pairs_of}
+use Rattle.live_reads.proofs.Finds.{keeps_then, when_out}
+use Rattle.live_layout.specs.Page.{pairs_of}
 use Rattle.live_scans.specs.inner.Steps.{IsStep}
 use Rattle.live_scans.specs.inner.Stops.{IsStand, Reaches}
 use Rattle.live_scans.specs.declared.seek.Reach.TheVariants as reaches

@@ -1,7 +1,7 @@
 use Rattle.std.proofs.Common.{rules, refl, subst, ◌≡◌}
 use Rattle.live_law.specs.Known.{Known}
-use Rattle.live_calls.specs.Calls.{known_of}
-use Rattle.live_calls.proofs.Ready.{ready_kept}
+use Rattle.live_growth.specs.Calls.{known_of}
+use Rattle.live_growth.proofs.Ready.{ready_kept}
 use Rattle.live_scans.specs.Scans.{HasBegun}
 use Rattle.live_scans.proofs.Composed.{more_same}
 use Rattle.live_scans.proofs.Pages.{begun_by}

@@ -1,11 +1,11 @@
 use Rattle.std.proofs.Common.{rules, arith, ℕ, length, take, subst, inr, ◌≡◌, ◌+◌, ◌∙◌}
 use Rattle.std.proofs.lemmas.List.{length-map}
 use Rattle.live_nodes.specs.Seats.{place}
-use Rattle.live_order.specs.Page.{pairs_of}
+use Rattle.live_layout.specs.Page.{pairs_of}
 use Rattle.live_law.specs.Known.{Known}
-use Rattle.live_calls.specs.Calls.{known_of}
-use Rattle.live_calls.proofs.Finds.{keeps_then}
-use Rattle.live_calls.proofs.Ready.{ready_kept}
+use Rattle.live_growth.specs.Calls.{known_of}
+use Rattle.live_reads.proofs.Finds.{keeps_then}
+use Rattle.live_growth.proofs.Ready.{ready_kept}
 use Rattle.live_scans.specs.Scans.{HasBegun, HasPage}
 use Rattle.live_scans.proofs.Pages.{begun_by, page_crossed, page_roomless, page_seat}
 use Rattle.live_scans.proofs.scans.range_inclusive.Goals as goal

@@ -1,6 +1,6 @@
 use Rattle.std.proofs.Common.{rules, arith, refl, subst, inr, ℕ, Some, None, ◌≡◌, ◌∙◌, true}
-use Rattle.live_calls.specs.Ways.{Names}
-use Rattle.live_calls.proofs.Finds.{keeps_then, names_kept, when_out}
+use Rattle.live_reads.specs.Ways.{Names}
+use Rattle.live_reads.proofs.Finds.{keeps_then, names_kept, when_out}
 use Rattle.live_scans.specs.inner.Stops.{IsStand, Reaches}
 use Rattle.live_scans.specs.declared.next.Turn.TheVariants as turns
 use Rattle.live_scans.proofs.Nexts.{turned_past, turned_to}

@@ -1,6 +1,6 @@
 use Rattle.std.proofs.Common.{◌≡◌, ◌⊎◌, ◌%◌, ◌≤◌, true, []}
 use Rattle.live_scans.specs.inner.Moments.{SeesMore}
-use Rattle.live_calls.specs.Ways.{Keeps}
+use Rattle.live_reads.specs.Ways.{Keeps}
 use Rattle.live_scans.specs.Scans.{HasRead}
 use Rattle.live_scans.specs.inner.Stops.{IsStand}
 use Rattle.live_scans.proofs.seek.seek_on.Given as goal

@@ -1,8 +1,8 @@
 use Rattle.std.proofs.Common.{rules, arith, refl, ℕ, List, Option, None, ◌≡◌, subst, ◌∙◌}
 use Rattle.share_rule.specs.History.{Entry}
 use Rattle.live_nodes.specs.Seats.{place}
-use Rattle.live_calls.specs.Roots.{SeesRoot, Begins}
-use Rattle.live_calls.proofs.Finds.{keeps_then}
+use Rattle.live_reads.specs.Roots.{SeesRoot, Begins}
+use Rattle.live_reads.proofs.Finds.{keeps_then}
 use Rattle.live_scans.proofs.seek.start.Goals as goal
 
 pub root_begun-requires-clause-trunk : goal.root_begun-requires-clause-trunk

@@ -3,9 +3,9 @@ use mathlib.Core.Logic.{dite}
 use native.Mathlib.Decide.{ℕ_discrete}
 use Rattle.live_law.specs.Levels.{place_at}
 use Rattle.live_law.specs.Views.{View}
-use Rattle.live_calls.proofs.Finds.{keeps_then}
-use Rattle.live_calls.proofs.Views.{first_word}
-use Rattle.live_calls.proofs.Sights.{sights_kept}
+use Rattle.live_reads.proofs.Finds.{keeps_then}
+use Rattle.live_reads.proofs.Views.{first_word}
+use Rattle.live_reads.proofs.Sights.{sights_kept}
 use Rattle.live_scans.specs.inner.Moments.{IsRead, IsBeside}
 use Rattle.live_scans.proofs.Wholes.{may_whole_above, above_missed, above_hit}
 use Rattle.live_scans.proofs.Composed.{more_then, none_since}

@@ -1,12 +1,12 @@
 use Rattle.std.proofs.Common.{rules, arith, sym, ap, subst, drop, take, ℕ, ◌≡◌, ◌+◌, ◌/◌, ◌∙◌, None}
-use Rattle.live_order.specs.Page.{pairs_of}
+use Rattle.live_layout.specs.Page.{pairs_of}
 use Rattle.live_nodes.specs.Seats.{Agree}
-use Rattle.live_rows.specs.Rows.{last_saw}
-use Rattle.live_encodes.specs.Encodes.{words_of}
+use Rattle.live_nodes.specs.Rows.{last_saw}
+use Rattle.live_layout.specs.Encodes.{words_of}
 use Rattle.live_law.specs.Levels.{place_at}
 use Rattle.live_law.specs.Views.{View}
-use Rattle.live_calls.proofs.Finds.{keeps_then, when_out}
-use Rattle.live_calls.proofs.Views.{first_word, may_read_open}
+use Rattle.live_reads.proofs.Finds.{keeps_then, when_out}
+use Rattle.live_reads.proofs.Views.{first_word, may_read_open}
 use Rattle.live_scans.specs.inner.Moments.{IsRead, ReadsOn}
 use Rattle.live_scans.proofs.Wholes.{may_whole, whole_missed, whole_hit}
 use Rattle.live_scans.proofs.Passes.{seen_equal}

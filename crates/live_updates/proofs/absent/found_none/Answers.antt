@@ -1,7 +1,7 @@
 use Rattle.std.proofs.Common.{rules, sym, refl, Some, None, ◌≡◌, ◌∙◌}
 use Rattle.live_law.specs.Views.{ask, got}
-use Rattle.live_calls.proofs.Finds.{answers_by}
-use Rattle.live_calls.proofs.Ready.{ready_kept, made_call}
+use Rattle.live_reads.proofs.Finds.{answers_by}
+use Rattle.live_growth.proofs.Ready.{ready_kept, made_call}
 use Rattle.live_updates.specs.declared.lookup.Site.TheVariants as sites
 use Rattle.live_updates.specs.inner.Lookups.{lookup_of, absence}
 use Rattle.live_updates.proofs.Ended.{absence_lookup}

@@ -1,5 +1,5 @@
 use Rattle.std.proofs.Common.{◌≡◌}
-use Rattle.live_calls.specs.Calls.{IsReady}
+use Rattle.live_growth.specs.Calls.{IsReady}
 use Rattle.live_updates.specs.inner.Lookups.{lookup_of, absence}
 use Rattle.live_updates.proofs.absent.found_none.Given as goal
 

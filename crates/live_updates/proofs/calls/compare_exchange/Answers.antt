@@ -1,7 +1,7 @@
 use Rattle.std.proofs.Common.{rules, sym, subst, refl, ℕ, None, Some, ◌≡◌, ◌∙◌}
 use Rattle.std.specs.Option.{option_map}
 use Rattle.live_law.specs.Tree.{Answers}
-use Rattle.live_calls.proofs.Ready.{made_call}
+use Rattle.live_growth.proofs.Ready.{made_call}
 use Rattle.live_updates.specs.Entries.{swapped}
 use Rattle.live_updates.specs.inner.Lookups.{EndsBy}
 use Rattle.live_updates.proofs.calls.compare_exchange.Goals as goal

@@ -1,6 +1,6 @@
 use Rattle.std.proofs.Common.{rules, sym, subst, Ok, Some, None, IsSome, ◌≡◌, ◌≢◌, ◌∙◌}
 use Rattle.std.specs.Option.{option_map}
-use Rattle.live_calls.proofs.Ready.{ready_kept}
+use Rattle.live_growth.proofs.Ready.{ready_kept}
 use Rattle.live_updates.specs.Entries.{swapped}
 use Rattle.live_updates.specs.declared.lookup.Site.TheVariants as sites
 use Rattle.live_updates.specs.inner.Lookups.{lookup_of, exchange_fails, EndsBy}

@@ -1,5 +1,5 @@
 use Rattle.std.proofs.Common.{◌≡◌}
-use Rattle.live_calls.specs.Calls.{IsReady}
+use Rattle.live_growth.specs.Calls.{IsReady}
 use Rattle.live_updates.proofs.calls.remove.Given as goal
 
 abbrev pub invariant-loop : goal.invariant-loop

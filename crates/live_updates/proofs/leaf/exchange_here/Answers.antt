@@ -1,6 +1,6 @@
 use Rattle.std.proofs.Common.{sym, subst, ◌∙◌}
 use Rattle.live_law.specs.Tree.{Answers}
-use Rattle.live_calls.proofs.Ready.{ready_rest}
+use Rattle.live_growth.proofs.Ready.{ready_rest}
 use Rattle.live_updates.proofs.leaf.exchange_here.Goals as goal
 
 pub tidy-requires-clause-ready : goal.tidy-requires-clause-ready

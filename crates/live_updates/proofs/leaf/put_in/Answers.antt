@@ -1,9 +1,9 @@
 use Rattle.std.proofs.Common.{rules, ◌≡◌, ◌∙◌, None, refl, sym, ap, subst}
 use Rattle.spec_map.specs.Map.{lookup}
 use Rattle.node_table.specs.declared.child.Child.TheVariants.{Payload}
-use Rattle.live_encodes.specs.Encodes.{Encodes}
+use Rattle.live_layout.specs.Encodes.{Encodes}
 use Rattle.live_law.specs.Tree.{HasValue}
-use Rattle.live_calls.proofs.Values.{none_below}
+use Rattle.live_growth.proofs.Values.{none_below}
 use Rattle.live_updates.proofs.leaf.put_in.Goals as goal
 
 pub returns-clause-is : goal.returns-clause-is

@@ -1,19 +1,19 @@
 use Rattle.std.proofs.Common.{rules, arith, sym, ap, subst, length, ℕ, Some, None, List, ◌≡◌, ◌+◌, ◌/◌, ◌∙◌}
 use Rattle.live_nodes.specs.Acts as acts
 use Rattle.live_nodes.specs.Seats.{SeatView}
-use Rattle.live_rows.specs.Rows.{draft_of, nth}
-use Rattle.live_encodes.specs.Encodes.{words_of, IsCounted}
+use Rattle.live_nodes.specs.Rows.{draft_of, nth}
+use Rattle.live_layout.specs.Encodes.{words_of, IsCounted}
 use Rattle.live_law.specs.Levels.{up, digit, place_at}
 use Rattle.live_law.specs.Views.{View}
 use Rattle.live_law.specs.Tree.{IsMap, Answers}
-use Rattle.live_calls.specs.Ways.{AreNamed}
-use Rattle.live_calls.specs.Holds.{HasLocked, HoldsOne}
-use Rattle.live_calls.proofs.Views.{first_word}
+use Rattle.live_reads.specs.Ways.{AreNamed}
+use Rattle.live_growth.specs.Holds.{HasLocked, HoldsOne}
+use Rattle.live_reads.proofs.Views.{first_word}
 use Rattle.share_rule.specs.History.{Entry}
 use Rattle.live_updates.specs.inner.Updates.{Writes}
 use Rattle.live_updates.proofs.Leaves.{leaf_updates}
 use Rattle.live_updates.proofs.Written.{set_leaf, kept_leaf, encodes_few}
-use Rattle.live_calls.proofs.Locks.{taken_by, holds_one, may_hold, draft_is, wrote_one, may_free, is_freed, alike_then}
+use Rattle.live_growth.proofs.Locks.{taken_by, holds_one, may_hold, draft_is, wrote_one, may_free, is_freed, alike_then}
 use Rattle.live_updates.proofs.leaf.update_leaf.Goals as goal
 
 pub set-requires-clause-may : goal.set-requires-clause-may

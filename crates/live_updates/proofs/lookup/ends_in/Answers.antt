@@ -1,11 +1,11 @@
 use Rattle.std.proofs.Common.{rules, arith, refl, sym, ap, subst, ◌/◌, ◌∙◌, Option, Some, None, ℕ}
 use Rattle.spec_map.specs.Map.{lookup}
-use Rattle.live_encodes.specs.Encodes.{words_of, IsBelow}
+use Rattle.live_layout.specs.Encodes.{words_of, IsBelow}
 use Rattle.live_nodes.specs.Seats.{Agree}
-use Rattle.live_rows.specs.Rows.{last_saw}
+use Rattle.live_nodes.specs.Rows.{last_saw}
 use Rattle.live_law.specs.Levels.{place_at}
 use Rattle.live_law.specs.Views.{View}
-use Rattle.live_calls.proofs.Views.{first_word, may_read_open}
+use Rattle.live_reads.proofs.Views.{first_word, may_read_open}
 use Rattle.live_updates.proofs.Seeks.{IsEnd, may_seek, seek_missed, seek_ends}
 use Rattle.live_updates.proofs.lookup.ends_in.Goals as goal
 

@@ -1,6 +1,6 @@
 use Rattle.std.proofs.Common.{rules, ◌∙◌, ◌≡◌, Some}
-use Rattle.live_calls.proofs.Finds.{keeps_then}
-use Rattle.live_calls.proofs.Sights.{sights_kept}
+use Rattle.live_reads.proofs.Finds.{keeps_then}
+use Rattle.live_reads.proofs.Sights.{sights_kept}
 use Rattle.live_updates.proofs.Seeks.{lacks_later, may_sight}
 use Rattle.live_updates.proofs.lookup.is_absent.Goals as goal
 

@@ -2,8 +2,8 @@ use Rattle.std.proofs.Common.{rules, arith, refl, sym, get_or, ◌/◌, ◌∙�
 use mathlib.Core.Logic.{dite}
 use native.Mathlib.Decide.{ℕ_discrete}
 use Rattle.live_law.specs.Levels.{place_at}
-use Rattle.live_calls.proofs.Finds.{keeps_then}
-use Rattle.live_calls.proofs.Views.{first_word}
+use Rattle.live_reads.proofs.Finds.{keeps_then}
+use Rattle.live_reads.proofs.Views.{first_word}
 use Rattle.live_updates.proofs.Seeks.{lacks_by, lacks_later, may_part, part_lost, part_ends}
 use Rattle.live_updates.proofs.lookup.leads_aside.Goals as goal
 

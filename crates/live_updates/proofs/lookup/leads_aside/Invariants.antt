@@ -1,5 +1,5 @@
 use Rattle.std.proofs.Common.{Some}
-use Rattle.live_calls.specs.Forks.{first_number}
+use Rattle.live_reads.specs.Forks.{first_number}
 use Rattle.live_updates.proofs.lookup.leads_aside.Given as goal
 
 abbrev pub ghosts-watch : goal.ghosts-watch

@@ -1,10 +1,10 @@
 use Rattle.std.proofs.Common.{rules, arith, sym, ap, subst, false, ℕ, Some, None, ◌≡◌, ◌∙◌}
 use Rattle.live_law.specs.Views.{View, ask}
-use Rattle.live_calls.specs.Ways.{Names, IsOpen, Ended}
-use Rattle.live_calls.specs.Sees.{Follows, IsNextOpen}
-use Rattle.live_calls.specs.declared.sight.Next.TheVariants as nexts
-use Rattle.live_calls.proofs.Finds.{keeps_then, names_kept}
-use Rattle.live_calls.proofs.Sights.{sights_names, sights_kept, sure_root}
+use Rattle.live_reads.specs.Ways.{Names, IsOpen, Ended}
+use Rattle.live_reads.specs.Sees.{Follows, IsNextOpen}
+use Rattle.live_reads.specs.declared.sight.Next.TheVariants as nexts
+use Rattle.live_reads.proofs.Finds.{keeps_then, names_kept}
+use Rattle.live_reads.proofs.Sights.{sights_names, sights_kept, sure_root}
 use Rattle.live_updates.proofs.Seeks.{found_none, found_some, ends_later, sought_later, sought_none}
 use Rattle.live_updates.proofs.lookup.seek.Goals as goal
 

@@ -1,6 +1,6 @@
 use Rattle.std.proofs.Common.{◌≡◌, ◌≤◌, false}
 use Rattle.live_law.specs.Views.{ask}
-use Rattle.live_calls.specs.Ways.{IsOpen, Keeps}
+use Rattle.live_reads.specs.Ways.{IsOpen, Keeps}
 use Rattle.live_updates.proofs.lookup.seek.Given as goal
 
 abbrev pub ghosts-step : goal.ghosts-step

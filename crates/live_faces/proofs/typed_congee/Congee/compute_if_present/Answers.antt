@@ -1,6 +1,6 @@
 use Rattle.std.proofs.Common.{rules, subst, ◌≡◌, Ok, IfOk, IfSome}
-use Rattle.live_computes.specs.Closures.{EndsWithCall}
-use Rattle.live_computes.proofs.Reached.{asked_on, calls_on}
+use Rattle.live_updates.specs.Closures.{EndsWithCall}
+use Rattle.live_updates.proofs.Reached.{asked_on, calls_on}
 use Rattle.live_faces.proofs.typed_congee.Congee.compute_if_present.Goals as goal
 
 pub returns-in-Ok-clause-reached : goal.returns-in-Ok-clause-reached

@@ -1,5 +1,5 @@
 use Rattle.std.proofs.Common.{rules, subst, ◌≡◌, Ok, IfOk}
-use Rattle.live_computes.proofs.Reached.{calls_on}
+use Rattle.live_updates.proofs.Reached.{calls_on}
 use Rattle.live_faces.specs.Returned.{ReturnsInserted}
 use Rattle.live_faces.proofs.Asked.{inserted_on}
 use Rattle.live_faces.proofs.typed_congee.Congee.compute_or_insert.Goals as goal

@@ -1,5 +1,5 @@
 use Rattle.std.proofs.Common.{◌≡◌}
-use Rattle.live_computes.specs.Closures.{Reaches}
+use Rattle.live_updates.specs.Closures.{Reaches}
 use Rattle.live_faces.proofs.typed_congee.Congee.compute_or_insert.Given as goal
 
 abbrev pub invariant-loop : goal.invariant-loop

@@ -1,6 +1,6 @@
 use Rattle.std.proofs.Common.{rules, ◌≢◌, arith}
-use Rattle.live_calls.proofs.Ready.{ready_kept, ready_spare}
-use Rattle.live_calls.proofs.Spares.{spares_more}
+use Rattle.live_growth.proofs.Ready.{ready_kept, ready_spare}
+use Rattle.live_growth.proofs.Spares.{spares_more}
 use Rattle.live_pool.proofs.pool.Pool.leave_at.Goals as goal
 
 pub add_to-requires-clause-met : goal.add_to-requires-clause-met

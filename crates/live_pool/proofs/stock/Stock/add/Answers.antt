@@ -2,7 +2,7 @@ use Rattle.std.proofs.Common.{ℕ, Bool, List, [], ◌∷◌, ◌++◌, sym, sub
 use Rattle.live_nodes.specs.Seats.{SeatView, Each}
 use Rattle.live_nodes.proofs.Frames.{each_both}
 use Rattle.live_law.specs.Views.{View}
-use Rattle.live_calls.specs.Ways.{Sights}
+use Rattle.live_reads.specs.Ways.{Sights}
 use Rattle.live_pool.proofs.Tellings.{keeps_more, sights_others, each_own}
 use Rattle.live_pool.proofs.stock.Stock.add.Goals as goal
 

@@ -1,4 +1,4 @@
-use Rattle.live_calls.proofs.Ready.{ready_kept}
+use Rattle.live_growth.proofs.Ready.{ready_kept}
 use Rattle.test_live_calls.proofs.pool.owed.leaf_made.Goals as goal
 
 pub invariant_of-guard : goal.invariant_of-guard

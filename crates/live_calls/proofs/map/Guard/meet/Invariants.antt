@@ -1,4 +1,0 @@
-use Rattle.live_calls.proofs.map.Guard.meet.Given as goal
-
-abbrev pub ghosts-meet : goal.ghosts-meet
-ghosts-meet a = record { first = a.a.now.id; second = a.b.now.id }

@@ -1,3 +1,0 @@
-pub mod Closures
-pub mod Entries
-pub mod inner

@@ -1,6 +1,0 @@
-use Rattle.std.proofs.Common.{arith}
-use Rattle.live_encodes.proofs.StandLaws.{few_forms}
-use Rattle.live_encodes.proofs.form.form_below.Goals as goal
-
-pub returns : goal.returns
-returns c = λ slot form e. c.form_at.ensures form (omega (arith, e, few_forms form))

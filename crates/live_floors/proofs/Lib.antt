@@ -1,4 +1,0 @@
-pub mod Firsts
-pub mod Downs
-pub mod Behinds
-pub mod Ends

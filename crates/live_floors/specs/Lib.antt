@@ -1,2 +1,0 @@
-pub mod Floors
-pub mod inner

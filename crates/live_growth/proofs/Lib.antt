@@ -1,0 +1,14 @@
+pub mod Locks
+pub mod Values
+pub mod Written
+pub mod Rooms
+pub mod Spares
+pub mod Grips
+pub mod Linked
+pub mod Trunks
+pub mod StoodOn
+pub mod Ready
+pub mod Pairs
+pub mod Again
+pub mod Sources
+pub mod Triples

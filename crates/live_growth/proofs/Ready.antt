@@ -1,0 +1,141 @@
+-- A seat stays ready for the next call.
+use Rattle.std.proofs.Common.{◌≡◌, ℕ, nat_eq, List, [], ◌∷◌, ◌++◌, refl, sym, ap, ◌∙◌, subst, inl, arith, Option, Some, None, IfSome}
+use Rattle.share_rule.specs.History.{Entry, entries_of, IsLegalHistory}
+use Rattle.share_rule.proofs.Keeps.{entries-append}
+use Rattle.word_book.specs.Book.{Book}
+use Rattle.live_nodes.specs.Seats.{Place, place, no_room, SeatView, seat_view, IsIn}
+use Rattle.live_nodes.specs.Plays.{given, met}
+use Rattle.live_law.specs.Levels.{Spot, place_at}
+use Rattle.live_law.specs.Views.{View, view_of}
+use Rattle.live_law.specs.Tree.{Answers}
+use Rattle.live_law.specs.Known.{Known, MadeCall}
+use Rattle.live_law.proofs.Histories.{its_own}
+use Rattle.live_reads.specs.Ways.{Names, Sights, Keeps}
+use Rattle.live_growth.specs.Holds.{HasRest}
+use Rattle.live_growth.specs.Rooms.{HasRoom, HasGrown}
+use Rattle.live_growth.specs.Spares.{slot_of, HasSpares}
+use Rattle.live_growth.specs.declared.link.Room.{Room}
+use Rattle.live_growth.specs.declared.spare.Spares.{Spares}
+use Rattle.live_growth.specs.Calls.{IsReady, known_of}
+
+abbrev Seen : Type 0
+Seen = SeatView View
+
+room_same : (v w : Seen) (s l : ℕ) → w.room ≡ v.room → HasRoom v s l → HasRoom w s l
+room_same v w s l e r = record { count = r.count; enough = r.enough; is = e ∙ r.is }
+
+sights_kept : (v w : Seen) (n : ℕ) → ((p : Place) → IsIn p v.places → IsIn p w.places) → ((a : Spot) → IsIn a v.client.met → IsIn a w.client.met) → Sights v n → Sights w n
+sights_kept v w n places met s = record { spot = s.spot; met = met s.spot s.met; placed = places (place_at s.spot) s.placed; named = s.named }
+
+spares_kept : (v w : Seen) (s : Spares) → ((p : Place) → IsIn p v.places → IsIn p w.places) → ((a : Spot) → IsIn a v.client.met → IsIn a w.client.met) → HasSpares v s → HasSpares w s
+unfolding sights_kept
+spares_kept v w s places met h = (
+  (λ form some. let i = h.0 form some in record { sighted = sights_kept v w (slot_of s form) places met i.sighted; in_form = i.in_form }),
+  (λ some. let i = h.1 some in record { sighted = sights_kept v w s.second places met i.sighted; in_form = i.in_form }),
+  (λ some. sights_kept v w s.more places met (h.2 some)),
+)
+
+pub spares_last : (v w : Seen) (s : Spares) → Keeps v w → HasSpares v s → HasSpares w s
+spares_last v w s k h = spares_kept v w s k.places k.met h
+
+pub spares_grown : (v w : Seen) (s : Spares) → HasGrown v w → HasSpares v s → HasSpares w s
+spares_grown v w s g h = spares_kept v w s g.places g.met h
+
+pub sights_grown : (v w : Seen) (n key height : ℕ) → HasGrown v w → Names v n key height → Sights w n
+sights_grown v w n key height g s = record { spot = s.spot; met = g.met s.spot s.met; placed = g.places (place_at s.spot) s.placed; named = s.named }
+
+-- a new seat
+pub ready_new : (v : Seen) (s : Spares) → v ≡ seat_view (view_of [] [] []) (place 0 1 1 ∷ []) [] [] no_room → ((u : Seen) → HasSpares u s) → IsReady v (record { start = 0; left = 0; spare = s; owed = None })
+ready_new v s e has = subst (λ (u : Seen). IsReady u (record { start = 0; left = 0; spare = s; owed = None })) (sym e) record {
+  trunk = inl refl;
+  own = refl;
+  holds = refl;
+  words = record { count = 0; enough = omega arith; is = refl };
+  spare = has (seat_view (view_of [] [] []) (place 0 1 1 ∷ []) [] [] no_room);
+}
+
+pub ready_kept : (v w : Seen) (m : Room) → IsReady v m → Keeps v w → IsReady w m
+ready_kept v w m r k = record {
+  trunk = k.places (place 0 1 1) r.trunk;
+  own = k.own ∙ r.own;
+  holds = k.holds ∙ r.holds;
+  words = room_same v w m.start m.left k.room r.words;
+  spare = spares_kept v w m.spare k.places k.met r.spare;
+}
+
+-- and has other words, and other nodes to use again
+pub ready_with : (v w : Seen) (m m' : Room) → IsReady v m → HasGrown v w → HasRoom w m'.start m'.left → HasSpares w m'.spare → IsReady w m'
+ready_with v w m m' r g words spare = record {
+  trunk = g.places (place 0 1 1) r.trunk;
+  own = g.own;
+  holds = g.holds;
+  words = words;
+  spare = spare;
+}
+
+pub ready_grown : (v w : Seen) (m m' : Room) → IsReady v m → HasGrown v w → HasRoom w m'.start m'.left → m'.spare ≡ m.spare → IsReady w m'
+ready_grown v w m m' r g words same = ready_with v w m m' r g words (subst (HasSpares w) (sym same) (spares_grown v w m.spare g r.spare))
+
+-- and another node may be used again
+pub ready_spare : (v : Seen) (m : Room) (s : Spares) → IsReady v m → HasSpares v s → IsReady v (record m { spare = s })
+ready_spare v m s r spare = record { trunk = r.trunk; own = r.own; holds = r.holds; words = r.words; spare = spare }
+
+-- and the way of a key is still to be tidied
+pub ready_owed : (v : Seen) (m : Room) (key : Option ℕ) → IsReady v m → IsReady v (record m { owed = key })
+ready_owed v m key r = record { trunk = r.trunk; own = r.own; holds = r.holds; words = r.words; spare = r.spare }
+
+-- and another node is in use again
+pub ready_again : (v w : Seen) (m : Room) (s : Spares) → IsReady v m → HasGrown v w → w.room ≡ v.room → ((u : Seen) → HasSpares u m.spare → HasSpares u s) → IsReady w (record m { spare = s })
+ready_again v w m s r g room left = ready_with v w m (record m { spare = s }) r g (room_same v w m.start m.left room r.words) (left w (spares_grown v w m.spare g r.spare))
+
+pub ready_again_met : (v w : Seen) (m : Room) (s : Spares) (n : ℕ) → IsReady v m → HasGrown v w → w.room ≡ v.room → Sights v n → ((u : Seen) → HasSpares u m.spare → Sights u n → HasSpares u s) → IsReady w (record m { spare = s })
+ready_again_met v w m s n r g room met left = ready_with v w m (record m { spare = s }) r g (room_same v w m.start m.left room r.words) (left w (spares_grown v w m.spare g r.spare) (sights_kept v w n g.places g.met met))
+
+pub ready_rest : (v w : Seen) (m : Room) → IsReady v m → HasRest v w → IsReady w m
+ready_rest v w m r h =
+    let places = λ (p : Place) (i : IsIn p v.places). subst (λ (ps : List Place). IsIn p ps) (sym h.alike.places) i in record {
+      trunk = places (place 0 1 1) r.trunk;
+      own = h.own;
+      holds = h.holds;
+      words = room_same v w m.start m.left h.alike.room r.words;
+      spare = spares_kept v w m.spare places (λ a i. subst (λ (l : List Spot). IsIn a l) (sym h.alike.met) i) r.spare;
+    }
+
+pub some_by : {A : Type 0} (o : Option A) (x : A) → o ≡ Some x → (P : A → Type 0) → IfSome o P → P x
+some_by {A} o x e P h = subst (λ (z : Option A). IfSome z P) e h
+
+-- and is given words
+pub ready_given : (v w : Seen) (m : Room) (start count : ℕ) → IsReady v m → w ≡ given v start count → IsReady w (record m { start = start; left = count })
+ready_given v w m start count r e =
+    let places = λ (p : Place) (i : IsIn p v.places). subst (λ (ps : List Place). IsIn p ps) (sym (ap (λ (z : Seen). z.places) e)) i in record {
+      trunk = places (place 0 1 1) r.trunk;
+      own = ap (λ (z : Seen). z.client.own) e ∙ r.own;
+      holds = ap (λ (z : Seen). z.holds) e ∙ r.holds;
+      words = record { count = count; enough = omega arith; is = ap (λ (z : Seen). z.room) e };
+      spare = spares_kept v w m.spare places (λ a i. subst (λ (l : List Spot). IsIn a l) (sym (ap (λ (z : Seen). z.client.met) e)) i) r.spare;
+    }
+
+-- and another caller is met
+pub ready_met : (v w : Seen) (e : View) (m : Room) → IsReady v m → {s : List (Entry ℕ)} → w ≡ met v e → e ≡ view_of s v.client.met v.client.own → IsReady w m
+ready_met v w e m r {s} w_is e_is =
+    let client = ap (λ (z : Seen). z.client) w_is ∙ e_is in
+    let places = λ (p : Place) (i : IsIn p v.places). subst (λ (ps : List Place). IsIn p ps) (sym (ap (λ (z : Seen). z.places) w_is)) i in record {
+      trunk = places (place 0 1 1) r.trunk;
+      own = ap (λ (z : View). z.own) client ∙ r.own;
+      holds = ap (λ (z : Seen). z.holds) w_is ∙ r.holds;
+      words = room_same v w m.start m.left (ap (λ (z : Seen). z.room) w_is) r.words;
+      spare = spares_kept v w m.spare places (λ a i. subst (λ (l : List Spot). IsIn a l) (sym (ap (λ (z : View). z.met) client)) i) r.spare;
+    }
+
+-- a call that has its answer
+pub made_call : (k : Known) (b : Book) (c : ℕ) (s : List (Entry ℕ)) (w : Seen) (f : ℕ → Entry ℕ) → ((x : ℕ) → (f x).caller ≡ x) → b ≡ k.book → c ≡ k.caller → s ≡ k.seen → Answers c (f c) s w.client.seen → MadeCall k (f k.caller) (known_of b c w)
+made_call k b c s w f by book caller seen answers =
+    let a : Answers k.caller (f k.caller) k.seen w.client.seen = subst (λ (z : ℕ × List (Entry ℕ)). Answers z.0 (f z.0) z.1 w.client.seen) (λ i. (caller i, seen i)) answers in
+    let e : Entry ℕ = f k.caller in record {
+      between = a.fits.begins.0;
+      book = book;
+      caller = caller;
+      legal = subst (IsLegalHistory nat_eq) (sym a.is) a.legal;
+      seen = a.is ∙ ap (λ (h : List (Entry ℕ)). h ++ e ∷ []) a.fits.begins.1;
+      own = ap (λ (z : ℕ). entries_of z w.client.seen) caller ∙ (ap (entries_of k.caller) a.is ∙ (entries-append k.caller a.whole (e ∷ []) ∙ (λ i. a.fits.own i ++ (ap (λ (z : ℕ). entries_of z (e ∷ [])) (sym (by k.caller)) ∙ its_own e) i)));
+    }

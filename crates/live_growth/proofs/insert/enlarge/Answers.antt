@@ -1,0 +1,15 @@
+use Rattle.live_growth.proofs.Ready.{ready_spare, sights_grown}
+use Rattle.live_growth.proofs.insert.enlarge.Goals as goal
+
+pub returns-then-replace : goal.returns-then-replace
+returns-then-replace c =
+    let v = c.args.pass.now.view in
+    let w = c.replace.new.pass.view in
+    let room = c.replace.new.room in
+    let t = c.replace.ensures.told in
+    let s = c.args.stand in
+    let met = sights_grown v w s.name c.args.key s.height t.3 c.requires.stands.named in
+    record { told = (t.0, t.1, ready_spare w room c.keep.new.self t.2 (c.keep.ensures.kept w t.2.spare met), t.3.seen) }
+
+pub returns-else-replace : goal.returns-else-replace
+returns-else-replace c = let t = c.replace.ensures.told in record { told = (t.0, t.1, t.2, t.3.seen) }

@@ -1,0 +1,6 @@
+use Rattle.std.proofs.Common.{false}
+use Rattle.live_law.specs.Views.{ask}
+use Rattle.live_growth.proofs.insert.insert_at.Given as goal
+
+abbrev pub ghosts-insert_here : goal.ghosts-insert_here
+ghosts-insert_here a = record { ask = ask a.pass.now.id a.key a.value 1; reads = false }

@@ -1,0 +1,9 @@
+use Rattle.std.proofs.Common.{false}
+use Rattle.live_law.specs.Views.{ask}
+use Rattle.live_growth.proofs.insert.part.Given as goal
+
+abbrev pub ghosts-split : goal.ghosts-split
+ghosts-split a = record { ask = ask a.pass.now.id a.key 0 a.fork.at; reads = false }
+
+abbrev pub ghosts-split_again : goal.ghosts-split_again
+ghosts-split_again a = record { ask = ask a.pass.now.id a.key 0 a.fork.at; reads = false }

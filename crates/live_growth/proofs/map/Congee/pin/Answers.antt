@@ -1,0 +1,9 @@
+use Rattle.live_law.proofs.Begins.{admits}
+use Rattle.live_growth.proofs.Ready.{ready_new}
+use Rattle.live_growth.proofs.map.Congee.pin.Goals as goal
+
+pub enter-requires : goal.enter-requires
+enter-requires c = admits
+
+pub invariant_of-result : goal.invariant_of-result
+invariant_of-result c = ready_new c.enter.result.view c.none.result c.enter.ensures.view c.none.ensures

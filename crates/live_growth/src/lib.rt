@@ -1,0 +1,21 @@
+//! A map that threads read without a lock, and how it grows.
+//!
+//! A writer locks single nodes. A call that meets too many writers gives up (`Busy`).
+//!
+//! A full node is replaced by a larger one, and its guard keeps its name (`spare`). A new node of that form is then that one,
+//! locked again: it is written, the node above leads to it, and only then it is free.
+//!
+//! Tested in `test_live_calls`.
+#![tactic(auto)]
+
+pub mod held;
+pub mod insert;
+pub mod link;
+pub mod map;
+pub mod plant;
+pub mod room;
+pub mod source;
+pub mod spare;
+pub mod split;
+pub mod widen;
+pub mod write;

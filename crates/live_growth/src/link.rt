@@ -1,0 +1,204 @@
+//! A new node comes below another.
+ghost use Rattle.std.specs.Prelude.{◌≡◌, ℕ, ◌≤◌, [], length, None, IfNone};
+ghost use Rattle.node_table.specs.TableNode.{TableNode};
+ghost use Rattle.spec_map.specs.Map.{lookup};
+ghost use Rattle.live_layout.specs.Words.{Looks};
+ghost use Rattle.live_layout.specs.Encodes.{words_of, Encodes, HasRoom as HasSpace};
+ghost use Rattle.live_nodes.specs.Seats.{SeatView};
+ghost use Rattle.live_law.specs.Views.{View};
+ghost use Rattle.live_reads.specs.Ways.{Names, Sights};
+ghost use Rattle.live_growth.specs.Spares.{HasSpares};
+ghost use Rattle.live_growth.specs.Rooms.{HasRoom, HasGrown};
+
+use crate::held::{lock_node, regain, unlock_again, unlock_same};
+use crate::room::make_empty;
+use crate::spare::Spares;
+use crate::write::Hindrance;
+use live_law::law::{Asks, Levels, Link, Mine, Same};
+use live_layout::change::{is_full, put};
+use live_layout::fill::lay;
+use live_layout::form::{form_below, next_of, word_below, words_in};
+use live_layout::search::find;
+use live_layout::words::{Draft, Drafted};
+use live_nodes::node;
+use live_nodes::rows::Held;
+use live_reads::way::{Nodes, Pass, byte_at, bytes_of, words_at};
+use node_base::base_node::NodeType;
+use std::marker::Brand;
+
+/// The form of a new node: the smallest.
+pub const NEW: NodeType = NodeType::N4;
+
+/// A seat's room: the first of its words, how many there are at least, and nodes that it may use again. With it a key is kept
+/// whose way may lead to a node without children, since a writer came in between.
+#[derive(Clone, Copy, Debug, PartialEq, Eq)]
+pub struct Room {
+    pub start: u64,
+    pub left: u64,
+    pub spare: Spares,
+    pub owed: Option<u64>,
+}
+
+impl Room {
+    /// The name of the node that is the next new one: of the smallest form, or of a larger one where there is neither such a
+    /// one nor room. 0 for none.
+    pub fn spare_for_new(&self) -> u64
+        ensures { (v : SeatView View) → HasSpares v self.now.spare → 1 ≤ result → Sights v result }
+    {
+        let spare = self.spare.smallest();
+        if !self.lacks(spare) {
+            return spare;
+        }
+        let larger = self.spare.larger(NEW);
+        if larger != 0 {
+            return larger;
+        }
+        self.spare.more
+    }
+
+    /// The name of the node that takes the place of a full one of this form: of the next form, or of a larger one where there is
+    /// neither such a one nor room. 0 for none.
+    pub fn spare_above(&self, form: NodeType) -> u64
+        ensures { (v : SeatView View) → HasSpares v self.now.spare → 1 ≤ result → Sights v result }
+    {
+        let spare = self.spare.get(next_of(form));
+        if self.lacks(spare) {
+            return self.spare.larger(form);
+        }
+        spare
+    }
+
+    /// Whether there is neither this node to be used again nor room for a new one of any form.
+    pub fn lacks(&self, spare: u64) -> bool {
+        spare == 0 && self.left < 263
+    }
+}
+
+/// Why no child can be put under a byte: there is one, or no room. `None` where it can.
+fn obstacle<S, D: Draft<S>>(
+    draft: &D,
+    form: NodeType,
+    byte: u8,
+    seat: &mut S,
+) -> Option<Result<(), Hindrance>>
+    requires may { D.may_write draft.now seat.old }
+    requires long { length (D.words draft.now seat.old) ≡ words_of form }
+    ensures seat { Looks D.may_write D.words draft.now seat.old seat.new }
+    ensures none { IfNone result (HasSpace form (D.words draft.now seat.old)
+        × ((n : TableNode ℕ) → Encodes (D.words draft.now seat.old) n → n.form ≡ form
+        → lookup n.children byte ≡ None)) }
+{
+    let long = words_in(form);
+    let cells = Drafted { draft, long };
+    if find(&cells, form, byte, seat).is_some() {
+        return Some(Ok(()));
+    }
+    if is_full(draft, form, seat) {
+        return Some(Err(Hindrance::Full));
+    }
+    None
+}
+
+/// Makes an empty leaf for a key below this node, where there is none.
+pub fn link<A: Asks>(
+    nodes: &Nodes,
+    name: u64,
+    height: usize,
+    key: u64,
+    room: &mut Room,
+    pass: &mut Pass,
+) -> Result<(), Hindrance>
+    requires book { pass.old.book ≡ nodes.now }
+    requires asks { (A.ask.key ≡ key) × (A.ask.height ≡ 1) }
+    requires named { Names pass.old.view name key height }
+    requires height { (2 ≤ height) × (height ≤ 8) }
+    requires rests { (pass.old.view.client.own ≡ []) × (pass.old.view.holds ≡ []) }
+    requires room { HasRoom pass.old.view room.old.start room.old.left }
+    ensures told { (pass.new.book ≡ pass.old.book) × (pass.new.id ≡ pass.old.id)
+        × HasGrown pass.old.view pass.new.view
+        × HasRoom pass.new.view room.new.start room.new.left
+        × (room.new.spare ≡ room.old.spare) }
+{
+    if room.start >= 1 << 48 || room.left < 263 {
+        return Err(Hindrance::Busy);
+    }
+    let Some(words) = words_at(nodes, name) else {
+        return Err(Hindrance::Busy);
+    };
+    let Some(others) = nodes.span(room.start, words_in(NEW) + 1) else {
+        return Err(Hindrance::Busy);
+    };
+    let form = form_below(name);
+    let byte = byte_at(key, height);
+    let Some(free) = lock_node(words, name, height, key, pass) else {
+        return Err(Hindrance::Busy);
+    };
+    let held: Held<'_, Mine, Levels, 0> = Held { words };
+    if let Some(end) = obstacle(&held, form, byte, pass) {
+        unlock_same(words, free, pass);
+        return end;
+    }
+    let child = make_empty::<A>(others, room.start, NEW, key, 1, pass);
+    room.start += words_in(NEW) as u64 + 1;
+    room.left -= words_in(NEW) as u64 + 1;
+    put(&held, form, byte, word_below(child, NEW), pass);
+    node::unlock::<Mine, Levels, Link>(&words[0], free, pass);
+    Ok(())
+}
+
+/// Makes an empty leaf for a key below this node, where there is none, of a node that is used again. Its name is kept as a spare
+/// one until it is locked.
+pub fn link_again<A: Asks>(
+    nodes: &Nodes,
+    name: u64,
+    height: usize,
+    key: u64,
+    spare: u64,
+    spares: &mut Spares,
+    pass: &mut Pass,
+) -> Result<(), Hindrance>
+    requires book { pass.old.book ≡ nodes.now }
+    requires asks { (A.ask.key ≡ key) × (A.ask.height ≡ 1) }
+    requires named { Names pass.old.view name key height }
+    requires height { (2 ≤ height) × (height ≤ 8) }
+    requires rests { (pass.old.view.client.own ≡ []) × (pass.old.view.holds ≡ []) }
+    requires spare { Sights pass.old.view spare }
+    ensures told { (pass.new.book ≡ pass.old.book) × (pass.new.id ≡ pass.old.id)
+        × HasGrown pass.old.view pass.new.view
+        × (pass.new.view.room ≡ pass.old.view.room) }
+    ensures spares { (v : SeatView View) → HasSpares v spares.old → HasSpares v spares.new }
+{
+    if spare >= 1 << 56 {
+        return Err(Hindrance::Busy);
+    }
+    let Some(words) = words_at(nodes, name) else {
+        return Err(Hindrance::Busy);
+    };
+    let Some(others) = words_at(nodes, spare) else {
+        return Err(Hindrance::Busy);
+    };
+    let form = form_below(name);
+    let kind = form_below(spare);
+    let byte = byte_at(key, height);
+    let bytes = bytes_of(key);
+    let Some(free) = lock_node(words, name, height, key, pass) else {
+        return Err(Hindrance::Busy);
+    };
+    let parent: Held<'_, Mine, Levels, 0> = Held { words };
+    if let Some(end) = obstacle(&parent, form, byte, pass) {
+        unlock_same(words, free, pass);
+        return end;
+    }
+    spares.forget(spare);
+    let Some(again) = regain(others, spare, pass) else {
+        unlock_same(words, free, pass);
+        return Err(Hindrance::Busy);
+    };
+    let child: Held<'_, Mine, Levels, 0> = Held { words: others };
+    lay(&child, kind, &bytes[..7], pass);
+    let held: Held<'_, Mine, Levels, 1> = Held { words };
+    put(&held, form, byte, word_below(spare, kind), pass);
+    unlock_again::<A, Brand>(&words[0], free, pass);
+    node::unlock::<Mine, Levels, Same>(&others[0], again, pass);
+    Ok(())
+}

@@ -1,0 +1,10 @@
+pub mod LaneLaws
+pub mod ListLaws
+pub mod StoreLaws
+pub mod PlaceLaws
+pub mod MoveLaws
+pub mod Seats
+pub mod StandLaws
+pub mod BestLaws
+pub mod ChildLaws
+pub mod PageLaws

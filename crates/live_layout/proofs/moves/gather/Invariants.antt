@@ -1,0 +1,16 @@
+use Rattle.std.proofs.Common.{◌≡◌, ℕ, ◌+◌, length, List}
+use Rattle.spec_map.specs.Map.{between}
+use Rattle.live_layout.specs.Words.{at, Stays}
+use Rattle.live_layout.specs.ListCells.{HasList, first}
+use Rattle.live_layout.specs.PlaceCells.{HasPlaces}
+use Rattle.live_layout.proofs.moves.gather.Given as goal
+
+abbrev pub invariant-loop-b : goal.invariant-loop-b
+invariant-loop-b g l = record {
+  seat : Stays g.E.Draft.may_write g.E.Draft.rest l.to l.fn.seat l.seat;
+  from : g.D.Draft.may_write l.from l.seat;
+  same : g.D.Draft.words l.from l.seat ≡ g.D.Draft.words l.from l.fn.seat;
+  head : at (g.E.Draft.words l.to l.seat) 0 ≡ at (g.E.Draft.words l.to l.fn.seat) 0;
+  long : length (g.E.Draft.words l.to l.seat) ≡ first l.room + l.room;
+  is : (es : List (ℕ × ℕ)) → HasPlaces (g.D.Draft.words l.from l.fn.seat) es → HasList l.room (g.E.Draft.words l.to l.seat) (between es 0 l.b);
+}

@@ -1,6 +1,0 @@
-use Rattle.std.proofs.Common.{◌≡◌}
-use Rattle.live_moves.proofs.moves.fill.Given as goal
-
--- the guard is one of this map
-abbrev pub invariant-loop-key : goal.invariant-loop-key
-invariant-loop-key l = l.guard.book ≡ l.pool

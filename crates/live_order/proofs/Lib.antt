@@ -1,3 +1,0 @@
-pub mod BestLaws
-pub mod ChildLaws
-pub mod PageLaws

@@ -1,0 +1,9 @@
+pub mod Bytes
+pub mod Views
+pub mod Roots
+pub mod Finds
+pub mod Sights
+pub mod Belows
+pub mod Forks
+pub mod Stood
+pub mod Meetings

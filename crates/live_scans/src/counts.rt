@@ -1,0 +1,71 @@
+//! The calls. Each is made by a guard of the map. It begins with an entry of its own in the history, and enters nothing more.
+ghost use Rattle.std.specs.Prelude.{◌≡◌, IfOk, IfSome, OnErr};
+ghost use Rattle.live_scans.specs.inner.Moments.{SeesMore};
+ghost use Rattle.live_reads.specs.Ways.{KnowsTrunk, Keeps};
+ghost use Rattle.live_scans.specs.Scans.{GaveUp};
+ghost use Rattle.live_scans.specs.Counts.{HasCounted, HasTested};
+ghost use Rattle.live_scans.specs.inner.Stops.{IsStand};
+ghost use Rattle.live_scans.specs.inner.LeafSteps.{Counts};
+
+pub mod laws;
+pub mod leaves;
+
+use crate::counts::leaves::step_on;
+use crate::scans::ceiling;
+use crate::seek::{Stand, start};
+use live_growth::map::{Busy, Congee, Guard};
+use live_reads::way::{Nodes, Pass};
+
+// How many pairs there are, from a stand on. `None` where too many writers came in between.
+fn count_all(nodes: &Nodes, stand: Stand, pass: &mut Pass) -> Option<u128>
+    requires book { pass.old.book ≡ nodes.now }
+    requires trunk { KnowsTrunk pass.old.view }
+    requires stand { IsStand pass.old.view stand }
+    ensures told { (pass.new.book ≡ pass.old.book) × (pass.new.id ≡ pass.old.id)
+        × Keeps pass.old.view pass.new.view
+        × SeesMore pass.new.view.client.seen pass.old.id pass.old.view.client.seen
+        × IfSome result (Counts pass.old.id pass.old.view pass.new.view) }
+{
+    let mut leaf = [(0u64, 0u64); 256];
+    let mut count = 0u128;
+    let mut from = 0u64;
+    let mut at = Some(stand);
+    loop {
+        let stepped = step_on(nodes, at, from, &mut leaf, pass)?;
+        let step = stepped.step;
+        count += step.count as u128;
+        if step.last == u64::MAX {
+            return Some(count);
+        }
+        from = step.last + 1;
+        at = Some(stepped.stand);
+    }
+}
+
+/// How many pairs there are: 2 to the 64 at most. Each key is read once, those of a leaf at one moment. So it is exact where
+/// nobody writes, and a key that is there throughout is counted. It takes no memory.
+pub fn count(map: &Congee, guard: &mut Guard) -> Result<u128, Busy>
+    requires map { guard.old.book ≡ map.now }
+    ensures map { guard.new.book ≡ guard.old.book }
+    ensures counted { IfOk result (λ count. HasCounted guard.old count guard.new) }
+    ensures busy { OnErr result (GaveUp guard.old guard.new) }
+{
+    let Some(stand) = start(&map.nodes, 0, &mut guard.pass) else {
+        return Err(Busy);
+    };
+    let Some(count) = count_all(&map.nodes, stand, &mut guard.pass) else {
+        return Err(Busy);
+    };
+    Ok(count)
+}
+
+/// Whether there is no pair. It reads up to the first one.
+pub fn is_empty(map: &Congee, guard: &mut Guard) -> Result<bool, Busy>
+    requires map { guard.old.book ≡ map.now }
+    ensures map { guard.new.book ≡ guard.old.book }
+    ensures tested { IfOk result (λ empty. HasTested guard.old empty guard.new) }
+    ensures busy { OnErr result (GaveUp guard.old guard.new) }
+{
+    let first = ceiling(map, guard, 0)?;
+    Ok(first.is_none())
+}

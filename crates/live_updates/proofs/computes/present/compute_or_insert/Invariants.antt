@@ -1,0 +1,14 @@
+use Rattle.std.proofs.Common.{◌≡◌}
+use Rattle.live_growth.specs.Calls.{IsReady}
+use Rattle.live_updates.specs.Closures.{Reaches}
+use Rattle.live_updates.proofs.computes.present.compute_or_insert.Given as goal
+
+abbrev pub invariant-loop : goal.invariant-loop
+invariant-loop g l = record {
+  book : l.guard-inside.pass.book ≡ l.fn.guard.book;
+  id : l.guard-inside.pass.id ≡ l.fn.guard.caller;
+  seen : l.guard-inside.pass.view.client.seen ≡ l.fn.guard.seen;
+  ready : IsReady l.guard-inside.pass.view l.guard-inside.room;
+  callable : goal.F-IsAlwaysCallable g l.f;
+  reached : Reaches (goal.F-step g) l.initial.f l.f;
+}

@@ -1,0 +1,6 @@
+mod DirectorySteps
+mod NumberSteps
+mod PairLaws
+mod PairViews
+mod LeafLaws
+mod LeafViews

@@ -1,0 +1,4 @@
+pub mod Directory
+pub mod Number
+pub mod Pairs
+pub mod Leaves

@@ -1,2 +1,0 @@
-mod DirectorySteps
-mod NumberSteps
