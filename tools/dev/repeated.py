@@ -1,6 +1,7 @@
 """Facts that several pages and headers repeat. Each has one place that decides: code, or a page."""
 import re
 
+from believed import THEOREMS, lines_of
 from sources import PAGES, crates, edges, files, text_of
 
 
@@ -129,6 +130,8 @@ FACTS = (
     ("the time of congee_owned", lambda: in_another_repository("congee_owned"), r"proves them once, in some (\d+) processor minutes", ("docs/RATTLE.md",)),
     ("the time of congee", lambda: in_another_repository("congee"), r"first check takes some (\d+) processor minutes", ("docs/RATTLE.md",)),
     ("crates of the archive", lambda: [crates_of("congee_c", "congee_shared_c", "congee_live_c")], r"by the lines of its (\d+) crates", ("docs/SPEED.md",)),
+    ("definitions of a live map", lambda: lines_of("live"), r"prints the definitions in reading order, (\d+) lines of (\d+) files", ("docs/LIVE.md",)),
+    *((f"definitions of {it}", lambda it=it: lines_of(it), rf"`tools/dev/show-believed {it}` \| (\d+) lines of (\d+) files", ("docs/BELIEVE.md",)) for it in THEOREMS),
     ("look-ups beside the crate", lambda: [1 / it for it in reversed(ratio("the crate `congee`", "look-up", 2))],
      r"takes ([\d.]+) of the time of the crate `congee` over random keys, and ([\d.]+) over dense", ("README.md",)),
     ("look-ups beside a lock", lambda: [*reversed(ratio("`Mutex<BTreeMap>`", "look-up", 2))], r"`Mutex<BTreeMap>` takes (\d+) times and (\d+) times", ("README.md",)),
