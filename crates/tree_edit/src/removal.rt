@@ -129,6 +129,10 @@ fn tidy<P: Drop, A: Allocator>(
     let mut at = above;
     'up: while at > 0 {
         let slot = trail[at];
+        if !nodes.is_due(slot) {
+            // (most often: then it isn't empty either)
+            return;
+        }
         if !nodes.is_empty(slot) {
             shrink_if_due(nodes, supply, slot, shrinks);
             return;

@@ -1,10 +1,11 @@
-use Rattle.std.proofs.Common.{◌≡◌, ap, ◌<◌, ◌+◌, ◌^◌, ◌∙◌, length, map, IsSome, Some, None, sym, subst, arith, length-set}
+use Rattle.std.proofs.Common.{ℕ, ◌≡◌, ap, ◌<◌, ◌+◌, ◌^◌, ◌∙◌, length, map, set, IsSome, Some, None, sym, subst, arith, length-set}
 use Rattle.tree_path.specs.inner.Descent.{IsTrail}
 use Rattle.std.specs.Int.{from_be_bytes, to_be_bytes, w64}
 use Rattle.std.proofs.lemmas.Nat.{from_be_bytes-to_be_bytes_8}
-use Rattle.tree_edit.specs.inner.Ends.{at_side}
+use Rattle.tree_edit.specs.inner.Ends.{at_side, StartsFrom}
 use Rattle.tree_edit.proofs.EndLaws.{OnWay, way_start, way_short, way_there, way_none, way_step, way_end, way_bound}
-use Rattle.tree_links.specs.LinkNode.{looked_at}
+use Rattle.tree_links.specs.LinkNode.{LinkNode, looked_at}
+use Rattle.tree_links.specs.declared.link.Link.TheVariants.{Slot}
 use Rattle.tree_links.specs.Places.{as_linked}
 use Rattle.node_table.specs.Key.{AreBytes, key_number}
 use Rattle.node_table.proofs.KeyLaws.{key_number-be_bytes}
@@ -15,7 +16,9 @@ use Rattle.tree_links.specs.SeenTable.{key_under, name_of, seen_link, seen_node}
 use Rattle.tree_edit.proofs.PopLaws.{key_bytes}
 use Rattle.tree_edit.specs.declared.ends.Side.TheVariants.{First}
 use Rattle.tree_edit.proofs.SideLaws.{side_link, no_side_link, names_set, names_long, pair_end}
+use Rattle.tree_edit.proofs.ends.seek_end.Given.{Over}
 use Rattle.tree_edit.proofs.ends.seek_end.Goals as goal
+use Rattle.tree_edit.proofs.ends.seek_end.Goals.{In-Some}
 
 pub down-init : goal.down-init
 down-init g c = (way_start c.args.side c.args.nodes.now.table (name_of c.args.root) (map name_of c.args.trail.now) c.requires.tree c.requires.filled, c.told-trail, omega arith)
@@ -27,20 +30,49 @@ unreachable-requires g c =
     let has : IsSome (node_at s (name_of c.down.slot)) = way_there c.args.side s (name_of c.args.root) c.down.above (name_of c.down.slot) (name_of c.down.parent) (map name_of c.down.trail) c.down.invariant.0 in
     let clash = rw lacks at has in cc
 
+-- what is known at a node on the way
+module _ (g : Over) (c : In-Some g) where
+  abbrev n : LinkNode g.row.P.Denot
+  n = as_linked c.in-Some.node.now
+
+  -- the bound comes before none of its links
+  starts : c.args.side ≡ First → StartsFrom c.to_be_bytes-bound.result n
+  starts first begins byte link is =
+      let s = c.args.nodes.now.table in
+      let trail = map name_of c.down.trail in
+      let w = subst (λ side. OnWay side s (name_of c.args.root) c.down.above (name_of c.down.slot) (name_of c.down.parent) trail) first c.down.invariant.0 in
+      let key = c.to_be_bytes-bound.result in
+      let bytes : AreBytes key = subst (λ k. AreBytes k) (sym c.to_be_bytes-bound.ensures) (key_bytes c.args.least) in
+      let full : length key ≡ 8 = ap (λ k. length k) c.to_be_bytes-bound.ensures in
+      let number : c.args.least ≡ key_number key = sym (key_number-be_bytes key full ∙ ap (λ k. from_be_bytes w64 k) c.to_be_bytes-bound.ensures ∙ from_be_bytes-to_be_bytes_8 c.args.least (omega arith)) in
+      let bound = subst (λ k. Rises k (2 ^ 64) (tree_pairs s (name_of c.args.root))) number (c.requires.bound first) in
+      way_bound s (name_of c.args.root) c.down.above (name_of c.down.slot) (name_of c.down.parent) trail w (seen_node c.down.slot n) (sym c.in-Some.ensures.node) key bytes full bound begins
+      byte (seen_link c.down.slot byte link) (sym (side_link c.down.slot First n.links byte link (sym is)))
+
+  -- its child at the side is the next
+  further : (byte below : ℕ) → Some (byte, Slot below) ≡ at_side c.args.side n.links
+      → OnWay c.args.side c.args.nodes.now.table (name_of c.args.root) (c.down.above + 1) (name_of below) (name_of c.down.slot) (map name_of (set c.down.trail c.down.above c.down.slot)) × (length (set c.down.trail c.down.above c.down.slot) ≡ 8) × (c.down.above + 1 < 8)
+  further byte below is =
+      let i = c.down.invariant in
+      let s = c.args.nodes.now.table in
+      let trail = map name_of c.down.trail in
+      let long : length trail ≡ 8 = names_long c.down.trail ∙ i.1 in
+      let room : c.down.above < length trail = omega (arith, i.2, long) in
+      let way = way_step c.args.side s (name_of c.args.root) c.down.above (name_of c.down.slot) (name_of c.down.parent) trail i.0 room (seen_node c.down.slot n) (sym c.in-Some.ensures.node) byte (name_of below) (side_link c.down.slot c.args.side n.links byte (Slot below) is) in (
+        subst (λ t. OnWay c.args.side s (name_of c.args.root) (c.down.above + 1) (name_of below) (name_of c.down.slot) t) (names_set c.down.trail c.down.above c.down.slot) way,
+        length-set c.down.trail c.down.above c.down.slot ∙ i.1,
+        way_short c.args.side s (name_of c.args.root) _ _ _ _ way,
+      )
+
+pub child_at-requires-clause-bound : goal.child_at-requires-clause-bound
+child_at-requires-clause-bound g c = starts g (goal.at.child_at-requires-clause-bound g c).In-Some
+
+pub down-preserved-in-Some-child_at : goal.down-preserved-in-Some-child_at
+down-preserved-in-Some-child_at g c =
+    let at = c.in-Some-child_at.ensures in further g (goal.at.down-preserved-in-Some-child_at g c).In-Some at.byte c.in-Some-child_at.below at.is
+
 pub link_at-requires-clause-bound : goal.link_at-requires-clause-bound
-link_at-requires-clause-bound g c = λ first begins byte link is.
-    let s = c.args.nodes.now.table in
-    let i = c.down.invariant.0 in
-    let n = as_linked c.in-Some.node.now in
-    let trail = map name_of c.down.trail in
-    let w = subst (λ side. OnWay side s (name_of c.args.root) c.down.above (name_of c.down.slot) (name_of c.down.parent) trail) first i in
-    let key = c.to_be_bytes-bound.result in
-    let bytes : AreBytes key = subst (λ k. AreBytes k) (sym c.to_be_bytes-bound.ensures) (key_bytes c.args.least) in
-    let full : length key ≡ 8 = ap (λ k. length k) c.to_be_bytes-bound.ensures in
-    let number : c.args.least ≡ key_number key = sym (key_number-be_bytes key full ∙ ap (λ k. from_be_bytes w64 k) c.to_be_bytes-bound.ensures ∙ from_be_bytes-to_be_bytes_8 c.args.least (omega arith)) in
-    let bound = subst (λ k. Rises k (2 ^ 64) (tree_pairs s (name_of c.args.root))) number (c.requires.bound first) in
-    way_bound s (name_of c.args.root) c.down.above (name_of c.down.slot) (name_of c.down.parent) trail w (seen_node c.down.slot n) (sym c.in-Some.ensures.node) key bytes full bound begins
-    byte (seen_link c.down.slot byte link) (sym (side_link c.down.slot First n.links byte link (sym is)))
+link_at-requires-clause-bound g c = starts g (goal.at.link_at-requires-clause-bound g c).In-Some
 
 pub returns-in_default-link_at-clause-none : goal.returns-in_default-link_at-clause-none
 returns-in_default-link_at-clause-none g c =
@@ -146,15 +178,5 @@ returns-in-Pair-clause-trail g c =
 
 pub down-preserved : goal.down-preserved
 down-preserved g c =
-    let n = as_linked c.in-Some.node.now in
-    let i = c.down.invariant in
-    let s = c.args.nodes.now.table in
-    let trail = map name_of c.down.trail in
-    let long : length trail ≡ 8 = names_long c.down.trail ∙ i.1 in
-    let room : c.down.above < length trail = omega (arith, i.2, long) in
-    let here = sym c.in-Some.ensures.node in
-    let way = way_step c.args.side s (name_of c.args.root) c.down.above (name_of c.down.slot) (name_of c.down.parent) trail i.0 room (seen_node c.down.slot n) here c.in-Some-link_at.byte (name_of c.in-Slot.below) (side_link c.down.slot c.args.side n.links c.in-Some-link_at.byte _ (subst (λ x. Some (c.in-Some-link_at.byte, looked_at x) ≡ at_side c.args.side n.links) c.in-Slot.is c.in-Some-link_at.ensures)) in (
-      subst (λ t. OnWay c.args.side s (name_of c.args.root) (c.down.above + 1) (name_of c.in-Slot.below) (name_of c.down.slot) t) (names_set c.down.trail c.down.above c.down.slot) way,
-      length-set c.down.trail c.down.above c.down.slot ∙ i.1,
-      way_short c.args.side s (name_of c.args.root) _ _ _ _ way,
-    )
+    let is = subst (λ x. Some (c.in-Some-link_at.byte, looked_at x) ≡ at_side c.args.side (as_linked c.in-Some.node.now).links) c.in-Slot.is c.in-Some-link_at.ensures in
+    further g (goal.at.down-preserved g c).In-Some c.in-Some-link_at.byte c.in-Slot.below is

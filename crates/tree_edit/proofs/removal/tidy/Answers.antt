@@ -1,4 +1,4 @@
-use Rattle.std.proofs.Common.{◌≡◌, suc, ◌+◌, ◌-◌, ◌<◌, length, get_or, map, refl, ap, sym, subst, ◌∙◌, arith}
+use Rattle.std.proofs.Common.{◌≡◌, suc, ◌+◌, ◌-◌, ◌<◌, length, get_or, map, refl, ap, sym, subst, ◌∙◌, arith, inl}
 use Rattle.std.proofs.lemmas.Bool.{iff_false}
 use Rattle.node_table.specs.Table.{node_at}
 use Rattle.tree_links.specs.SeenTable.{name_of}
@@ -8,6 +8,26 @@ use Rattle.tree_edit.specs.inner.Rise.{HasRisen}
 use Rattle.tree_edit.proofs.TidyLaws.{moves_trans, is_child, up_one, counted_here, few_here, ends_top, ends_thin}
 use Rattle.tree_edit.proofs.RemovalLaws.{inner_above, parent_named}
 use Rattle.tree_edit.proofs.removal.tidy.Goals as goal
+
+pub is_due-requires : goal.is_due-requires
+is_due-requires g c =
+    let b = c.requires.begins in
+    let r = c.up.invariant.1 b.0 b.1 b.2 b.3 in
+    rw r.risen.there refl
+
+pub returns-then-not-is_due-clause-ends : goal.returns-then-not-is_due-clause-ends
+returns-then-not-is_due-clause-ends g c = λ s forms w r0.
+    let root = name_of (get_or c.args.trail.now 0 0) in
+    let slot = name_of (get_or c.args.trail.now c.up.at 0) in
+    let at_is : c.up.at ≡ suc (c.up.at - 1) = omega (arith, c.up-test.true) in
+    let r = subst (λ a. HasRisen s root c.args.key.now c.up.nodes.table slot a forms c.up.supply.forms) at_is (c.up.invariant.1 s forms w r0) in
+    let some : 0 < length r.left.children =
+    let more = iff_false (c.is_due.ensures r.left r.risen.there) c.if-not-is_due.true in omega (arith, more) in
+    ends_thin s root c.args.key.now c.up.nodes.table slot forms c.up.supply.forms (c.up.at - 1) r (map name_of c.args.trail.now) c.args.above w some
+    c.up.nodes.table c.up.supply.forms (λ i apart. refl) c.args.shrinks (λ n here. inl (here, refl))
+
+pub returns-then-not-is_due-clause-alike : goal.returns-then-not-is_due-clause-alike
+returns-then-not-is_due-clause-alike g c = c.up.invariant.2
 
 pub is_empty-requires : goal.is_empty-requires
 is_empty-requires g c =
