@@ -1,3 +1,4 @@
+pub mod BackwardLaws
 pub mod BytesLeft
 pub mod CountLaws
 pub mod EntryLaws

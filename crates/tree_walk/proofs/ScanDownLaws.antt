@@ -1,24 +1,20 @@
 -- A scan of the pairs of a range below a node, keys descending.
-use Rattle.std.proofs.Common.{◌≡◌, ℕ, zero, suc, ◌+◌, ◌^◌, ◌<◌, ◌≤◌, List, [], ◌∷◌, ◌++◌, length, map, min, take, drop, reverse, Some, None, ap, sym, subst, ◌∙◌, arith}
+use Rattle.std.proofs.Common.{◌≡◌, ℕ, zero, suc, ◌+◌, ◌<◌, ◌≤◌, List, [], ◌∷◌, ◌++◌, length, map, min, take, drop, reverse, Some, None, refl, ap, sym, subst, ◌∙◌, arith}
 use Rattle.std.proofs.lemmas.List.{append-nil, map-append, length-map, reverse-append, length-reverse}
 use Rattle.std.proofs.lemmas.List.Elements.{filter-append}
-use Rattle.std.proofs.lemmas.Bool.{lt-ltb, le-leb}
 use Rattle.spec_map.specs.Map.{Pairs, lookup, between, Rises}
 use Rattle.spec_map.specs.Near.{below_of}
 use Rattle.spec_map.proofs.RangeLaws.{between-split}
 use Rattle.spec_map.proofs.NearLaws.{no_last, none_between, none-between, absent_between, stored_between, greatest_between}
-use Rattle.node_table.specs.Key.{low}
 use Rattle.node_table.specs.TableNode.{TableNode, Child}
 use Rattle.node_table.specs.Table.{NodeTable, node_at, pairs_of, pairs_at, IsChild, IsTree, IsSubtree}
 use Rattle.node_table.specs.declared.child.Child.TheVariants.{Payload, Node}
-use Rattle.node_table.proofs.NodesLaws.{none_below_seven}
-use Rattle.tree_walk.specs.inner.Scan.{IsWindow, HasSubtree, FillsBuffer, AddsEntries, entries_down}
+use Rattle.node_table.specs.inner.Kinds.{mapped}
+use Rattle.tree_walk.specs.inner.Scan.{IsWindow, HasSubtree, FillsBuffer, AddsEntries, entries_down, entries_under}
 use Rattle.tree_walk.specs.declared.window.Window.{Window}
 use Rattle.tree_walk.proofs.FillLaws.{Written, written-none, written-more, written-end, written-full, fills-none}
 use Rattle.tree_walk.proofs.NearestLaws.{one_between, next_at, pairs_of-append}
-use Rattle.tree_walk.proofs.ScanLaws.{at_node, window_pairs, child_at, next_inside, in_leaf, goes_down, GoesDown, root_tree}
-use Rattle.tree_walk.proofs.WalkLaws.{key_fits}
-use Rattle.tree_walk.proofs.WindowLaws.{low-leaf}
+use Rattle.tree_walk.proofs.ScanLaws.{at_node, window_pairs, child_at, in_leaf, in_leaf_window, goes_down, GoesDown, root_tree}
 use Rattle.tree_path.specs.inner.Root.{depth}
 use Rattle.tree_path.proofs.PathEndLaws.{depth_is}
 
@@ -44,6 +40,12 @@ module _ {C : Type 0} (es : List (ℕ × C)) (h : Rises 0 256 es) (from to : ℕ
         ∙ ap (λ t. between es byte (byte + 1) ++ t) (none-between es (byte + 1) to (λ j more less. nothing_after j (omega arith) less))
         ∙ append-nil (between es byte (byte + 1))
         ∙ one_between 0 256 es byte c h there)
+
+map-reverse : {A B : Type 0} (f : A → B) (xs : List A) → map f (reverse xs) ≡ reverse (map f xs)
+map-reverse f [] = refl
+map-reverse f (x ∷ xs) =
+    ap (λ t. map f t) (reverse-append (x ∷ []) xs) ∙ map-append f (reverse xs) (x ∷ []) ∙ ap (λ t. t ++ f x ∷ []) (map-reverse f xs)
+    ∙ sym (reverse-append (f x ∷ []) (map f xs))
 
 module _ {P E : Type 0} (entry : ℕ → P → E) (start end : ℕ) where
   down-append : (xs ys : Pairs P) → entries_down entry start end (xs ++ ys) ≡ entries_down entry start end ys ++ entries_down entry start end xs
@@ -71,21 +73,18 @@ module _ {P E : Type 0} (entry : ℕ → P → E) (start end : ℕ) where
                 (ap (λ es. map (λ e. entry e.0 e.1) (reverse es)) (sym (window_pairs s less slot n tree here w start end is))) (written-none _ b count inside);
           }
 
+      -- a leaf's payloads, the last first
+      pub down_leaf : (w : Window) → IsWindow n.prefix start end w → (es : List (ℕ × P)) → length n.prefix ≡ 7 → mapped (λ v. Payload v) es ≡ between n.children w.from w.to → entries_under entry w.first (reverse es) ≡ all_down less slot
+      down_leaf w is es seven is_left =
+          map-reverse (λ e. entry (w.first + e.0) e.1) es ∙ ap (λ t. reverse t) (in_leaf_window entry start end s less slot n tree here w is es seven is_left)
+          ∙ sym (map-reverse (λ e. entry e.0 e.1) (between (pairs_at s (suc less) slot) start end))
+
       module _ (from to : ℕ) (old new : List E) (first count : ℕ) (d : Down less slot n from to old first new count) where
         pub down_end : between n.children from to ≡ [] → AddsEntries (all_down less slot) old first new count
         down_end none = written-end _ _ old new first count d.written (ap (down_of less n) none)
 
         pub down_full : length new ≤ count → AddsEntries (all_down less slot) old first new count
         down_full full = written-full _ _ old new first count d.written full
-
-        -- none is left from a byte on
-        pub down_until : (until : ℕ) → from ≤ until → until ≤ to → between n.children until to ≡ [] → Down less slot n from until old first new count
-        down_until until at_least less_than none =
-            let a = at_node s less slot n tree here in
-            let is : between n.children from to ≡ between n.children from until =
-            between-split 0 256 from until to n.children a.sound.ordered at_least less_than ∙ ap (λ t. between n.children from until ++ t) none ∙ append-nil (between n.children from until)
-            in
-            record { written = subst (λ es. Written (all_down less slot) (down_of less n es) old first new count) is d.written }
 
         module _ (within : to ≤ 256) (byte : ℕ) (c : Child P) (is : Some (byte, c) ≡ below_of n.children to) (at_least : from ≤ byte) where
           last_and_rest : down_of less n (between n.children from to) ≡ down_of less n ((byte, c) ∷ []) ++ down_of less n (between n.children from byte)
@@ -103,16 +102,6 @@ module _ {P E : Type 0} (entry : ℕ → P → E) (start end : ℕ) where
               let a = at_node s less slot n tree here in
               child_at s less slot n byte byte c _ tree here (next_at n.children a.sound.ordered to within byte c is)
 
-        pub down_payload : (within : to ≤ 256) (byte : ℕ) (v : P) → Some (byte, Payload v) ≡ below_of n.children to → from ≤ byte → (w : Window) → IsWindow n.prefix start end w → w.from ≤ byte → byte < w.to
-            → length n.prefix ≡ 7 → (b : List E) (k : ℕ) → AddsEntries (entry (w.first + byte) v ∷ []) new count b k → Down less slot n from byte old first b k
-        down_payload within byte v is at_least w win inside past seven b k adds =
-            let key = low (n.prefix ++ byte ∷ []) in
-            let one : down_of less n ((byte, Payload v) ∷ []) ≡ entry (w.first + byte) v ∷ [] =
-            rw (le-leb start key (win.not_before seven byte inside), lt-ltb key end (win.not_past seven byte past))
-            (ap (λ x. entry x v ∷ []) (low-leaf n.prefix byte seven ∙ ap (λ x. x + byte) (sym win.first)))
-            in
-            down_more within byte (Payload v) is at_least b k (subst (λ t. AddsEntries t new count b k) (sym one) adds)
-
         pub down_node : (within : to ≤ 256) (byte j : ℕ) → Some (byte, Node j) ≡ below_of n.children to → from ≤ byte → (b : List E) (k : ℕ)
             → ((l : ℕ) → IsSubtree s (suc l) j → AddsEntries (all_down l j) new count b k) → Down less slot n from byte old first b k
         down_node within byte j is at_least b k adds =
@@ -128,16 +117,8 @@ module _ {P : Type 0} (s : NodeTable P) (slot : ℕ) (n : TableNode P) (h : HasS
   pub last_down : (byte j : ℕ) → Some (byte, Node j) ≡ below_of n.children to → GoesDown s slot j
   last_down byte j is = goes_down s slot n byte byte j _ h here (next_at n.children ascending to within byte (Node j) is)
 
-  pub last_key : (byte : ℕ) (v : P) → Some (byte, Payload v) ≡ below_of n.children to → low n.prefix + byte < 2 ^ 64
-  last_key byte v is = key_fits s slot n byte byte v _ h here (next_at n.children ascending to within byte (Payload v) is)
-
   pub last_in_leaf : (byte : ℕ) (v : P) → Some (byte, Payload v) ≡ below_of n.children to → length n.prefix ≡ 7
   last_in_leaf byte v is = in_leaf s slot n byte byte v _ h here (next_at n.children ascending to within byte (Payload v) is)
-
-  pub no_node_in_leaf : (byte j : ℕ) → Some (byte, Node j) ≡ below_of n.children to → length n.prefix ≡ 7 → ⊥
-  no_node_in_leaf byte j is seven =
-      let a = next_inside s slot n byte byte (Node j) _ h here (next_at n.children ascending to within byte (Node j) is) in
-      none_below_seven s a.levels n.prefix byte j seven a.child
 
 -- in the whole tree
 module _ {P E : Type 0} (entry : ℕ → P → E) (start end : ℕ) (s : NodeTable P) (root : ℕ) (tree : IsTree s depth [] root) (old new : List E) (count : ℕ)

@@ -3,6 +3,7 @@
 //! Tested in `test_owned` and `tools/dev/try-commands`.
 #![tactic(auto)]
 
+mod backward;
 pub mod nearest;
 mod pair;
 mod payloads;

@@ -1,23 +1,27 @@
 //! The pairs of a range, from a subtree of the table into a buffer, keys descending: the ascending scan mirrored.
 //!
 //! In each node a scan begins at the last byte whose keys aren't all past the range, and goes down from child to child,
-//! so no path is walked again for the next pair. It reads the nodes that the ascending scan of the same pairs reads.
+//! so no path is walked again for the next pair. It reads the nodes that the ascending scan of the same pairs reads. An
+//! iterator remembers the place in a leaf, and gives its payloads from the last on.
 //!
 //! Tested in `test_owned/neighbours`.
 
-ghost use Rattle.std.specs.Prelude.{◌≡◌, ℕ, ◌+◌, ◌<◌, ◌≤◌, [], length, IfSome, IfNone, Some};
+ghost use Rattle.std.specs.Prelude.{◌≡◌, ◌+◌, ◌^◌, ◌<◌, ◌≤◌, [], length, reverse, IfSome, IfNone, Some};
+ghost use Rattle.node_base.specs.Rest.{rest};
 ghost use Rattle.spec_map.specs.Map.{between};
 ghost use Rattle.spec_map.specs.Near.{below_of};
-ghost use Rattle.node_table.specs.Table.{node_at};
-ghost use Rattle.node_table.specs.TableNode.{TableNode};
 ghost use Rattle.tree_links.specs.Places.{as_linked};
 ghost use Rattle.tree_links.specs.LinkNode.{looked_at};
 ghost use Rattle.tree_links.specs.SeenTable.{name_of};
-ghost use Rattle.tree_walk.specs.inner.Scan.{HasSubtree, EachSubtree, AddsEntries, entries_down};
+ghost use Rattle.tree_walk.specs.inner.Scan.{HasSubtree, EachSubtree, AddsEntries, entries_down, entries_under};
 
 use crate::pair::write_pair;
-use crate::range_scan::{AHEAD, RangeEntry, room_after};
+use crate::payloads::Backward;
+use crate::range_scan::{AHEAD, RangeEntry, room_after, write_all};
 use crate::window::window_of;
+use node_base::base_node::NodeType;
+use node_base::iter::NodeIter;
+use node_table::child::ChildIter;
 use tree_links::bytes::pair_number;
 use tree_links::link::LinkRef;
 use tree_links::linked_node::LinkedNode;
@@ -50,73 +54,52 @@ fn last_between<'a>(
     Some((at, child))
 }
 
-// Down to which byte the last children of an inner node below a byte are read together (`range_scan` has the reason), as
-// many as it takes to fill so many places, and `AHEAD` at most.
-fn read_ahead(
-    nodes: &Links<u64>,
-    node: &Linked<u64>,
-    from: usize,
-    to: usize,
-    mut room: usize,
-) -> usize
-    requires some { from < to }
-    requires bytes { to ≤ 256 }
-    ensures less { result < to }
-    ensures within { from ≤ result }
+// Reads the counts of the nodes below the last children of a node with cells, below a byte, and returns of how many
+// (`range_scan` has the reason): as many as it takes to fill so many places by these counts, and `AHEAD` at most.
+fn read_ahead(nodes: &Links<u64>, node: &Linked<u64>, to: usize, mut room: usize) -> usize
+    requires { to ≤ 256 }
 {
-    let mut until = to;
+    if LinkedNode::base(node).get_type() != NodeType::N256 {
+        return AHEAD;
+    }
+    let mut to = to;
+    let mut seen = 0;
     for _ in 0..AHEAD {
-        let Some((byte, child)) = last_between(node, from, until) else {
-            return from;
+        let Some((byte, child)) = last_between(node, 0, to) else {
+            return AHEAD;
         };
-        until = byte;
+        to = byte;
         room = match child {
             LinkRef::Slot(below) => room_after(nodes, below, room),
             _ => room.saturating_sub(1),
         };
+        seen += 1;
         if room == 0 {
             break;
         }
     }
-    // (it lies between the two anyhow; this spares a proof)
-    until.min(to - 1).max(from)
+    seen
 }
 
-// The scan of a leaf.
-fn scan_leaf<E: RangeEntry>(
-    nodes: &Links<u64>,
-    slot: usize,
-    start: u64,
-    last: u64,
+// Writes the entries of the remaining payloads of a leaf, keys descending, from place `count` on, and returns the place
+// after the last; it ends at the buffer's end. The keys are those from `first` on.
+fn write_payloads<E: RangeEntry>(
+    payloads: NodeIter<'_, u64>,
+    first: u64,
     buffer: &mut [E],
-    mut count: usize,
+    count: usize,
 ) -> usize
-    requires tree { HasSubtree nodes.now.table (name_of slot) }
-    requires leaf { (n : TableNode ℕ) → node_at nodes.now.table (name_of slot) ≡ Some n
-        → length n.prefix ≡ 7 }
+    requires keys { first + 256 ≤ 2 ^ 64 }
     requires room { count ≤ length buffer.old }
-    ensures { EachSubtree nodes.now.table (name_of slot) (λ pairs.
-        AddsEntries (entries_down E.entry start (last + 1) pairs) buffer.old count buffer.new result) }
+    ensures { AddsEntries (entries_under E.entry first (reverse (rest payloads.entry)))
+        buffer.old count buffer.new result }
 {
-    let Some(node) = nodes.get(slot) else {
-        unreachable!()
-    };
-    let window = window_of(LinkedNode::base(node), start, last);
-    let mut to = window.to;
-    'payloads: while count < buffer.len() {
-        let Some((byte, child)) = last_between(node, window.from, to) else {
-            return count;
-        };
-        let value = match child {
-            LinkRef::Payload(value) => *value,
-            LinkRef::Slot(_) => unreachable!(),
-            LinkRef::Pair(_, _) => unreachable!(),
-        };
-        buffer[count] = E::from_pair(window.first + byte as u64, value);
-        count += 1;
-        to = byte;
+    match payloads {
+        NodeIter::N4(payloads) => write_all(Backward { payloads }, first, buffer, count),
+        NodeIter::N16(payloads) => write_all(Backward { payloads }, first, buffer, count),
+        NodeIter::N48(payloads) => write_all(Backward { payloads }, first, buffer, count),
+        NodeIter::N256(payloads) => write_all(Backward { payloads }, first, buffer, count),
     }
-    count
 }
 
 /// Writes the entries of the subtree's pairs from `start` on and up to `last` to the buffer, keys descending, from place
@@ -137,32 +120,34 @@ pub fn scan_down<E: RangeEntry>(
     let Some(node) = nodes.get(slot) else {
         unreachable!()
     };
-    if LinkedNode::is_leaf(node) {
-        return scan_leaf(nodes, slot, start, last, buffer, count);
-    }
     let base = LinkedNode::base(node);
     let window = window_of(base, start, last);
+    if LinkedNode::is_leaf(node) {
+        let ChildIter::Payloads(payloads) = LinkedNode::links_between(node, window.from, window.to)
+        else {
+            unreachable!()
+        };
+        return write_payloads(payloads, window.first, buffer, count);
+    }
     let mut to = window.to;
-    'parts: while window.from < to {
+    let mut ahead = 0;
+    'children: while let Some((byte, child)) = last_between(node, window.from, to) {
         if count >= buffer.len() {
             return count;
         }
-        let until = read_ahead(nodes, node, window.from, to, buffer.len() - count);
-        'children: while let Some((byte, child)) = last_between(node, until, to) {
-            if count >= buffer.len() {
-                return count;
-            }
-            count = match child {
-                LinkRef::Slot(below) => scan_down(nodes, below, start, last, buffer, count),
-                LinkRef::Pair(rest, value) => {
-                    let number = pair_number(base, byte as u8, rest);
-                    write_pair(number, *value, start, last, buffer, count)
-                }
-                LinkRef::Payload(_) => unreachable!(),
-            };
-            to = byte;
+        if ahead == 0 {
+            ahead = read_ahead(nodes, node, to, buffer.len() - count);
         }
-        to = until;
+        ahead = ahead.saturating_sub(1);
+        count = match child {
+            LinkRef::Slot(below) => scan_down(nodes, below, start, last, buffer, count),
+            LinkRef::Pair(rest, value) => {
+                let number = pair_number(base, byte as u8, rest);
+                write_pair(number, *value, start, last, buffer, count)
+            }
+            LinkRef::Payload(_) => unreachable!(),
+        };
+        to = byte;
     }
     count
 }

@@ -76,7 +76,7 @@ pub(crate) fn room_after(nodes: &Links<u64>, slot: usize, room: usize) -> usize 
 
 // Writes the entries of the remaining payloads of a leaf, from place `count` on, and returns the place after the last;
 // it ends at the buffer's end. The keys are those from `first` on.
-fn write_all<E: RangeEntry, I: Payloads>(
+pub(crate) fn write_all<E: RangeEntry, I: Payloads>(
     mut payloads: I,
     first: u64,
     buffer: &mut [E],
