@@ -217,6 +217,29 @@ static inline int congee_get_or_insert(struct congee *map, uint64_t key, uint64_
     return 1;
 }
 
+/* A function that congee_compute and the like calls call with a key's value. `found` is CONGEE_PRESENT with the value
+ * in *value, or CONGEE_ABSENT with 0 there. The function returns CONGEE_PRESENT for a key with the number that it
+ * leaves in *value, or CONGEE_ABSENT for no such key. */
+typedef int congee_updater(int found, uint64_t *value, void *with);
+
+/* Changes the key's value by a function. Looks the key up, calls f(found, &value, with) once with what it found, and
+ * gives the key the value that f leaves, or removes the key (congee_updater). Returns CONGEE_ABSENT if the key was
+ * absent before, which leaves *old unchanged. Returns CONGEE_PRESENT for a key that was present, with the previous
+ * value in *old. Returns CONGEE_OOM, with nothing changed, only for a new key that needs a new node or a larger one.
+ * The call reads two paths. f may read the map, and changes no key of the map. */
+static inline int congee_compute(struct congee *map, uint64_t key, congee_updater *f, void *with, uint64_t *old) {
+    uint64_t before = 0, value;
+    int found = congee_get(map, key, &before);
+    value = before;
+    if (f(found, &value, with) == CONGEE_ABSENT)
+        congee_remove(map, key, NULL);
+    else if (congee_insert(map, key, value, NULL) == CONGEE_OOM)
+        return CONGEE_OOM;
+    if (found == CONGEE_PRESENT && old)
+        *old = before;
+    return found;
+}
+
 /* -- Ranges -- */
 
 /* Writes the first pairs with start <= key < end to the buffer, keys ascending, n pairs at most, and returns the number
@@ -353,15 +376,16 @@ static inline int congee_pop_last(struct congee *map, struct congee_pair *pair) 
 
 /* -- Many pairs -- */
 
-/* How many pairs congee_each and congee_frozen_each read at once: at first, and then. */
+/* How many pairs congee_each and the like calls read at once: at first, and then. */
 enum { CONGEE_FIRST_PAGE = 16, CONGEE_PAGE = 256 };
 
 /* A function that congee_each calls with each pair. It returns 0 to go on. */
 typedef int congee_visitor(struct congee_pair pair, void *with);
 
 /* Calls f(pair, with) for each pair with start <= key <= last, keys ascending, until a call returns something else than
- * 0. Returns what the last call of f returned, or 0 without a call. The pairs are read in pages: 16 pairs, then 256 each. So f may change
- * the map, and is called with a page's pairs as they were when the page was read. The call takes no memory. */
+ * 0. Returns what the last call of f returned, or 0 without a call. The pairs are read in pages: 16 pairs, then 256
+ * each. So f may change the map, and is called with a page's pairs as they were when the page was read. The call takes
+ * no memory. */
 static inline int congee_each(const struct congee *map, uint64_t start, uint64_t last, congee_visitor *f, void *with) {
     struct congee_pair page[CONGEE_PAGE];
     size_t room = CONGEE_FIRST_PAGE, ready = 0, n;
@@ -377,6 +401,30 @@ static inline int congee_each(const struct congee *map, uint64_t start, uint64_t
         if (n < room || page[n - 1].key == last)
             return 0;
         start = page[n - 1].key + 1;
+        room = CONGEE_PAGE;
+    }
+}
+
+/* Calls f(pair, with) for each pair with start <= key <= last, keys descending, until a call returns something else
+ * than 0. Returns what the last call of f returned, or 0 without a call. The pairs are read in pages: 16 pairs, then
+ * 256 each. So f may change the map, and is called with a page's pairs as they were when the page was read. The call
+ * takes no memory. */
+static inline int congee_each_descending(const struct congee *map, uint64_t start, uint64_t last, congee_visitor *f,
+                                         void *with) {
+    struct congee_pair page[CONGEE_PAGE];
+    size_t room = CONGEE_FIRST_PAGE, ready = 0, n;
+    for (;;) {
+        for (; ready < room; ready++)
+            page[ready].key = page[ready].value = 0;
+        n = congee_range_descending(map, start, last, page, room);
+        for (size_t i = 0; i < n; i++) {
+            int code = f(page[i], with);
+            if (code != 0)
+                return code;
+        }
+        if (n < room || page[n - 1].key == start)
+            return 0;
+        last = page[n - 1].key - 1;
         room = CONGEE_PAGE;
     }
 }
@@ -438,6 +486,13 @@ static inline uint64_t congee_charged(const struct congee *map) {
 static inline uint64_t congee_limit(const struct congee *map) {
     struct congee_const_handle handle = {map};
     return congee_c_limit(&handle);
+}
+
+/* Writes the sum in bytes of the stated sizes of the map's nodes to *charged, and the map's limit to *limit, in
+ * constant time. Neither place is null. The charged bytes are at most the limit, which is proved. */
+static inline void congee_usage(const struct congee *map, uint64_t *charged, uint64_t *limit) {
+    *charged = congee_charged(map);
+    *limit = congee_limit(map);
 }
 
 /* -- Readers on several threads -- */
@@ -525,8 +580,8 @@ static inline size_t congee_frozen_range_descending(const struct congee_frozen *
 }
 
 /* Calls f(pair, with) for each pair with start <= key <= last, keys ascending, until a call returns something else than
- * 0. Returns what the last call of f returned, or 0 without a call. The pairs are read in pages: 16 pairs, then 256 each. The call takes
- * no memory. */
+ * 0. Returns what the last call of f returned, or 0 without a call. The pairs are read in pages: 16 pairs, then 256
+ * each. The call takes no memory. */
 static inline int congee_frozen_each(const struct congee_frozen *frozen, uint64_t start, uint64_t last, congee_visitor *f,
                                      void *with) {
     struct congee_pair page[CONGEE_PAGE];
@@ -543,6 +598,29 @@ static inline int congee_frozen_each(const struct congee_frozen *frozen, uint64_
         if (n < room || page[n - 1].key == last)
             return 0;
         start = page[n - 1].key + 1;
+        room = CONGEE_PAGE;
+    }
+}
+
+/* Calls f(pair, with) for each pair with start <= key <= last, keys descending, until a call returns something else
+ * than 0. Returns what the last call of f returned, or 0 without a call. The pairs are read in pages: 16 pairs, then
+ * 256 each. The call takes no memory. */
+static inline int congee_frozen_each_descending(const struct congee_frozen *frozen, uint64_t start, uint64_t last,
+                                                congee_visitor *f, void *with) {
+    struct congee_pair page[CONGEE_PAGE];
+    size_t room = CONGEE_FIRST_PAGE, ready = 0, n;
+    for (;;) {
+        for (; ready < room; ready++)
+            page[ready].key = page[ready].value = 0;
+        n = congee_frozen_range_descending(frozen, start, last, page, room);
+        for (size_t i = 0; i < n; i++) {
+            int code = f(page[i], with);
+            if (code != 0)
+                return code;
+        }
+        if (n < room || page[n - 1].key == start)
+            return 0;
+        last = page[n - 1].key - 1;
         room = CONGEE_PAGE;
     }
 }
@@ -599,6 +677,11 @@ static inline int congee_frozen_last(const struct congee_frozen *frozen, struct 
 static inline uint64_t congee_frozen_count(const struct congee_frozen *frozen) {
     struct congee_const_frozen_handle handle = {frozen};
     return congee_c_frozen_count(&handle);
+}
+
+/* Returns whether the frozen map has no pair, in constant time. */
+static inline bool congee_frozen_is_empty(const struct congee_frozen *frozen) {
+    return congee_frozen_count(frozen) == 0;
 }
 
 #ifdef __cplusplus

@@ -375,11 +375,6 @@ static inline int congee_live_get_or_insert(struct congee_live *map, uint64_t ke
     return code;
 }
 
-/* A function that congee_live_compute calls with a key's value. `found` is CONGEE_PRESENT with the value in *value, or
- * CONGEE_ABSENT with 0 there. The function returns CONGEE_PRESENT for a key with the number that it leaves in *value,
- * or CONGEE_ABSENT for no such key. */
-typedef int congee_updater(int found, uint64_t *value, void *with);
-
 /* Changes the key's value by a function. Looks the key up, calls f(found, &value, with) with what it found, and gives
  * the key the value that f leaves, or removes the key (congee_updater). Returns CONGEE_ABSENT if the key was absent
  * before, which leaves *old unchanged. Returns CONGEE_PRESENT for a key that was present, with the previous value in
@@ -842,6 +837,28 @@ static inline int congee_live_each(const struct congee_live *map, uint64_t start
     return 0;
 }
 
+/* Calls f(pair, with) for each pair with start <= key <= last, keys descending, until a call returns something else
+ * than 0. Returns what the last call of f returned, or 0 without a call. Reads pages of 64 pairs by
+ * congee_live_range_descending, which searches each pair. So each key is read at a moment of its own, and each key that
+ * is present throughout the call is among them. Nothing is locked while f runs, so f may call the map, by this handle
+ * too. While writers lock or change nodes on the way, the call yields and tries again. */
+static inline int congee_live_each_descending(const struct congee_live *map, uint64_t start, uint64_t last,
+                                              congee_visitor *f, void *with) {
+    struct congee_pair page[64] = {{0, 0}};
+    size_t n;
+    while ((n = congee_live_range_descending(map, start, last, page, 64)) > 0) {
+        for (size_t i = 0; i < n; i++) {
+            int code = f(page[i], with);
+            if (code != 0)
+                return code;
+        }
+        if (n < 64 || page[63].key == start)
+            return 0;
+        last = page[63].key - 1;
+    }
+    return 0;
+}
+
 /* Inserts n pairs in their order, by a call of congee_live_insert for each. Between two of them calls of other handles
  * come in. Returns how many pairs were inserted: n, or fewer if the next insertion was out of memory. The pairs before
  * it are in the map. While writers lock or change nodes on the way, the call yields and tries again. */
@@ -877,6 +894,38 @@ static inline uint64_t congee_live_remove_range_inclusive(struct congee_live *ma
  * map keeps its segments. */
 static inline void congee_live_clear(struct congee_live *map) {
     congee_live_remove_range_inclusive(map, 0, UINT64_MAX);
+}
+
+/* Copies the pairs into a new map with one owner and without a limit (congee.h). Returns CONGEE_DONE with the copy in
+ * *out, or CONGEE_OOM with null there. The live map is unchanged. congee_freeze makes readers of the copy, for threads
+ * that look at it side by side.
+ *
+ * The copy is of no single moment. The call reads pages of 64 pairs by congee_live_range_inclusive. Each key is read at
+ * a moment of the call, and no moment is before the moment of a lower key. A key of the copy had its value at the key's
+ * moment, and a key that the copy lacks was absent at its moment. So each key that is present throughout the call is in
+ * the copy, and a map that nobody changes meanwhile is copied exactly. If other handles write, the map may never have
+ * had just these pairs. The copy may have a change of a greater key, and lack an earlier change of a lower key. Keys
+ * that differ in the last byte alone are read at one moment if they are in one page.
+ *
+ * Nothing is locked, and writers go on. While writers lock or change nodes on the way, the call yields and tries again.
+ */
+static inline int congee_live_snapshot(const struct congee_live *map, struct congee **out) {
+    struct congee_pair page[64] = {{0, 0}};
+    uint64_t start = 0;
+    size_t n;
+    if (congee_new(out) == CONGEE_OOM)
+        return CONGEE_OOM;
+    for (;;) {
+        n = congee_live_range_inclusive(map, start, UINT64_MAX, page, 64);
+        if (congee_insert_many(*out, page, n) < n) {
+            congee_free(*out);
+            *out = NULL;
+            return CONGEE_OOM;
+        }
+        if (n < 64 || page[63].key == UINT64_MAX)
+            return CONGEE_DONE;
+        start = page[63].key + 1;
+    }
 }
 
 /* -- Counts -- */

@@ -78,6 +78,14 @@ static inline int congee_shared_new(uint64_t limit, struct congee_shared **out) 
     return code;
 }
 
+/* Makes an empty map under one lock whose nodes take at most `bytes` bytes together by their stated sizes, and its
+ * first handle. The place of the handle is the first argument, as of congee_new_with_limit. UINT64_MAX is no limit, and
+ * a limit below 2104 bytes fails at once. Returns CONGEE_DONE with the handle in *out, or CONGEE_OOM with null there.
+ */
+static inline int congee_shared_new_with_limit(struct congee_shared **out, uint64_t bytes) {
+    return congee_shared_new(bytes, out);
+}
+
 /* Makes an empty map in 64 shards, for many threads, and its first handle. Keys that differ in their last eight bits
  * alone are of one shard. Calls of keys of different shards go on side by side. A call that is not of one key takes
  * 64 locks, and looks into 64 trees. Each shard has a 64th of the limit, rounded down, so a call may be out of memory
@@ -323,6 +331,68 @@ static inline int congee_shared_get_or_insert(struct congee_shared *map, uint64_
     while ((code = congee_shared_try_get_or_insert(map, key, value, found)) == CONGEE_BUSY)
         CONGEE_YIELD();
     return code;
+}
+
+/* Changes the key's value by a function. Looks the key up, calls f(found, &value, with) with what it found, and gives
+ * the key the value that f leaves, or removes the key (congee_updater). Returns CONGEE_ABSENT if the key was absent
+ * before, which leaves *old unchanged. Returns CONGEE_PRESENT for a key that was present, with the previous value in
+ * *old. No lock is held while f runs, so f may take long, or call the map, by this handle too.
+ *
+ * Returns CONGEE_BUSY, with no pair changed, if a lock of the key was taken at each of the call's tries, or if another
+ * handle changed the key between the look-up and the change. So f is called once, or not at all. Returns CONGEE_OOM,
+ * with no pair changed, if f asks for a new key, and malloc finds no memory or the map's limit is reached. */
+static inline int congee_shared_try_compute(struct congee_shared *map, uint64_t key, congee_updater *f, void *with,
+                                            uint64_t *old) {
+    uint64_t before = 0, value;
+    int found = congee_shared_try_get(map, key, &before), wanted, code;
+    if (found == CONGEE_BUSY)
+        return CONGEE_BUSY;
+    value = before;
+    wanted = f(found, &value, with);
+    if (found == CONGEE_ABSENT) {
+        code = wanted == CONGEE_ABSENT ? CONGEE_ABSENT : congee_shared_try_get_or_insert(map, key, value, NULL);
+        return code == CONGEE_PRESENT ? CONGEE_BUSY : code;
+    }
+    code = wanted == CONGEE_ABSENT ? congee_shared_try_compare_remove(map, key, before, NULL)
+                                   : congee_shared_try_compare_exchange(map, key, before, value, NULL);
+    if (code != CONGEE_PRESENT)
+        return CONGEE_BUSY;
+    if (old)
+        *old = before;
+    return CONGEE_PRESENT;
+}
+
+/* Changes the key's value by a function. Looks the key up, calls f(found, &value, with) with what it found, and gives
+ * the key the value that f leaves, or removes the key (congee_updater). If another handle changes the key meanwhile, f
+ * is called again with the new value, so no change is lost. Returns CONGEE_ABSENT if the key was absent before, which
+ * leaves *old unchanged. Returns CONGEE_PRESENT for a key that was present, with the previous value in *old. No lock is
+ * held while f runs, so f may take long, or call the map, by this handle too.
+ *
+ * Returns CONGEE_OOM, with no pair changed, if f asks for a new key, and malloc finds no memory or the map's limit is
+ * reached. While a lock of the key is taken, the call yields and tries again. */
+static inline int congee_shared_compute(struct congee_shared *map, uint64_t key, congee_updater *f, void *with,
+                                        uint64_t *old) {
+    uint64_t before = 0, value;
+    int found = congee_shared_get(map, key, &before), wanted, code;
+    for (;;) {
+        value = found == CONGEE_PRESENT ? before : 0;
+        wanted = f(found, &value, with);
+        if (found == CONGEE_ABSENT) {
+            code = wanted == CONGEE_ABSENT ? CONGEE_ABSENT : congee_shared_get_or_insert(map, key, value, &before);
+            if (code != CONGEE_PRESENT)
+                return code;
+            found = CONGEE_PRESENT;
+        } else {
+            code = wanted == CONGEE_ABSENT ? congee_shared_compare_remove(map, key, before, &before)
+                                           : congee_shared_compare_exchange(map, key, before, value, &before);
+            if (code == CONGEE_PRESENT)
+                break;
+            found = code == CONGEE_OTHER ? CONGEE_PRESENT : CONGEE_ABSENT;
+        }
+    }
+    if (old)
+        *old = before;
+    return CONGEE_PRESENT;
 }
 
 /* -- Ranges -- */
@@ -628,21 +698,7 @@ static inline int congee_shared_pop_last(struct congee_shared *map, struct conge
     return 1;
 }
 
-/* -- Many pairs and counts -- */
-
-/* Removes all pairs at one moment. Returns CONGEE_DONE, or CONGEE_BUSY, with nothing changed, if a lock of the call was
- * taken at each of its tries. Other calls are busy meanwhile. The call is never out of memory. */
-static inline int congee_shared_try_clear(struct congee_shared *map) {
-    struct congee_shared_handle handle = {map};
-    return congee_c_shared_clear(&handle);
-}
-
-/* Removes all pairs at one moment. While a lock of the call is taken, the call yields and tries again. Other calls are
- * busy meanwhile. The call is never out of memory. */
-static inline void congee_shared_clear(struct congee_shared *map) {
-    while (congee_shared_try_clear(map) == CONGEE_BUSY)
-        CONGEE_YIELD();
-}
+/* -- Counts -- */
 
 /* Tests whether the map has no pair. Returns 1 for an empty map, and 0 for a map with a pair. Returns CONGEE_BUSY if a
  * lock of the call was taken at each of its tries. The call takes no memory. */
@@ -708,8 +764,8 @@ static inline uint64_t congee_shared_charged(const struct congee_shared *map) {
 
 /* Adds up the stated sizes in bytes of the map's nodes, which count against the limit. Returns CONGEE_DONE with the sum
  * in *charged and the map's limit in *limit. In shards the limit is the sum of the shards' limits. The sum is at most
- * the limit, which is proved. Both pointers are to places, never null. Returns CONGEE_BUSY, which leaves both unchanged,
- * if a lock of the call was taken at each of its tries. */
+ * the limit, which is proved. Both pointers are to places, never null. Returns CONGEE_BUSY, which leaves both
+ * unchanged, if a lock of the call was taken at each of its tries. */
 static inline int congee_shared_try_usage(const struct congee_shared *map, uint64_t *charged, uint64_t *limit) {
     struct congee_const_shared_handle handle = {map};
     uint64_t bytes = 0, most = 0;
@@ -723,13 +779,46 @@ static inline int congee_shared_try_usage(const struct congee_shared *map, uint6
 
 /* Adds up the stated sizes in bytes of the map's nodes, which count against the limit, with the sum in *charged and the
  * map's limit in *limit. In shards the limit is the sum of the shards' limits. The sum is at most the limit, which is
- * proved. Both pointers are to places, never null. While a lock of the call is taken, the call yields and tries again. */
+ * proved. Both pointers are to places, never null. While a lock of the call is taken, the call yields and tries again.
+ */
 static inline void congee_shared_usage(const struct congee_shared *map, uint64_t *charged, uint64_t *limit) {
     uint64_t bytes = 0, most = 0;
     while (congee_shared_try_usage(map, &bytes, &most) == CONGEE_BUSY)
         CONGEE_YIELD();
     *charged = bytes;
     *limit = most;
+}
+
+/* Reads the map's limit in bytes, UINT64_MAX for none. In shards it is the sum of the shards' limits, which are rounded
+ * down. Returns CONGEE_DONE with the limit in *bytes, which isn't null. Returns CONGEE_BUSY, which leaves *bytes
+ * unchanged, if a lock of the call was taken at each of its tries. */
+static inline int congee_shared_try_limit(const struct congee_shared *map, uint64_t *bytes) {
+    uint64_t charged = 0;
+    return congee_shared_try_usage(map, &charged, bytes);
+}
+
+/* Returns the map's limit in bytes, UINT64_MAX for none. In shards it is the sum of the shards' limits, which are
+ * rounded down. While a lock of the call is taken, the call yields and tries again. */
+static inline uint64_t congee_shared_limit(const struct congee_shared *map) {
+    uint64_t charged = 0, limit = 0;
+    congee_shared_usage(map, &charged, &limit);
+    return limit;
+}
+
+/* -- Many pairs -- */
+
+/* Removes all pairs at one moment. Returns CONGEE_DONE, or CONGEE_BUSY, with nothing changed, if a lock of the call was
+ * taken at each of its tries. Other calls are busy meanwhile. The call is never out of memory. */
+static inline int congee_shared_try_clear(struct congee_shared *map) {
+    struct congee_shared_handle handle = {map};
+    return congee_c_shared_clear(&handle);
+}
+
+/* Removes all pairs at one moment. While a lock of the call is taken, the call yields and tries again. Other calls are
+ * busy meanwhile. The call is never out of memory. */
+static inline void congee_shared_clear(struct congee_shared *map) {
+    while (congee_shared_try_clear(map) == CONGEE_BUSY)
+        CONGEE_YIELD();
 }
 
 /* Calls f(pair, with) for each pair with start <= key <= last, keys ascending, until a call returns something else than
@@ -753,6 +842,27 @@ static inline int congee_shared_each(const struct congee_shared *map, uint64_t s
     return 0;
 }
 
+/* Calls f(pair, with) for each pair with start <= key <= last, keys descending, until a call returns something else
+ * than 0. Returns what the last call of f returned, or 0 without a call. Reads pages of 64 pairs of one moment each.
+ * Between two pages calls of other handles come in. No lock is held while f runs, so f may call the map, by this handle
+ * too. While a lock is taken, the call yields and tries again. */
+static inline int congee_shared_each_descending(const struct congee_shared *map, uint64_t start, uint64_t last,
+                                                congee_visitor *f, void *with) {
+    struct congee_pair page[64] = {{0, 0}};
+    size_t n;
+    while ((n = congee_shared_range_descending(map, start, last, page, 64)) > 0) {
+        for (size_t i = 0; i < n; i++) {
+            int code = f(page[i], with);
+            if (code != 0)
+                return code;
+        }
+        if (n < 64 || page[63].key == start)
+            return 0;
+        last = page[63].key - 1;
+    }
+    return 0;
+}
+
 /* Inserts n pairs in their order, by a call of congee_shared_insert for each. Between two of them calls of other
  * handles come in. Returns how many pairs were inserted: n, or fewer if the next insertion was out of memory. The pairs
  * before it are in the map. While a lock is taken, the call yields and tries again. */
@@ -761,6 +871,52 @@ static inline size_t congee_shared_insert_many(struct congee_shared *map, const 
     while (done < n && congee_shared_insert(map, pairs[done].key, pairs[done].value, NULL) != CONGEE_OOM)
         done++;
     return done;
+}
+
+/* Removes the pairs with start <= key <= last, one by one, keys ascending, each at a moment of its own. Returns how
+ * many pairs this call removed. Each key of the range that is present when the call begins is removed meanwhile, by
+ * this call or by another handle. A key that another handle inserts meanwhile may stay. The call is never out of
+ * memory. Reads pages of 64 pairs of one moment each, and calls congee_shared_remove for each key. While a lock is
+ * taken, the call yields and tries again. */
+static inline uint64_t congee_shared_remove_range_inclusive(struct congee_shared *map, uint64_t start, uint64_t last) {
+    struct congee_pair page[64] = {{0, 0}};
+    uint64_t removed = 0;
+    size_t n;
+    while ((n = congee_shared_range_inclusive(map, start, last, page, 64)) > 0) {
+        for (size_t i = 0; i < n; i++)
+            removed += (uint64_t)congee_shared_remove(map, page[i].key, NULL);
+        if (n < 64 || page[63].key == last)
+            break;
+        start = page[63].key + 1;
+    }
+    return removed;
+}
+
+/* Copies the pairs into a new map with one owner and without a limit (congee.h). Returns CONGEE_DONE with the copy in
+ * *out, or CONGEE_OOM with null there. The shared map is unchanged. congee_freeze makes readers of the copy, for
+ * threads that look at it side by side.
+ *
+ * The copy is made of pages of 64 pairs, and each page is of one moment. Between two pages calls of other handles come
+ * in. So a map of more than 63 pairs that other handles change may never have had just these pairs. A key that is
+ * present throughout the call is in the copy, with a value that it had meanwhile. While a lock is taken, the call
+ * yields and tries again. */
+static inline int congee_shared_snapshot(const struct congee_shared *map, struct congee **out) {
+    struct congee_pair page[64] = {{0, 0}};
+    uint64_t start = 0;
+    size_t n;
+    if (congee_new(out) == CONGEE_OOM)
+        return CONGEE_OOM;
+    for (;;) {
+        n = congee_shared_range_inclusive(map, start, UINT64_MAX, page, 64);
+        if (congee_insert_many(*out, page, n) < n) {
+            congee_free(*out);
+            *out = NULL;
+            return CONGEE_OOM;
+        }
+        if (n < 64 || page[63].key == UINT64_MAX)
+            return CONGEE_DONE;
+        start = page[63].key + 1;
+    }
 }
 
 #ifdef __cplusplus

@@ -3,7 +3,8 @@
  *   - Four threads pop, beside two that insert: each pair goes to one of them, and none is lost.
  *   - A pop beside writers returns no key beyond one that is there throughout, and always finds one then.
  *   - Four threads change keys by a function: no step is lost.
- *   - Pages downwards and calls of many pairs beside writers: a key that stays is read, called with, or removed.
+ *   - Pages downwards, copies and calls of many pairs beside writers: a key that stays is read, called with, copied, or
+ *     removed. In a copy no key is older than a lower one.
  *   - Four threads remove one range at once: each pair counts for one of them.
  *
  * A call of the library that changes a key begins late now and then, so that other threads come in after the search before it.
@@ -293,6 +294,7 @@ static void many_beside_writers(void) {
     static struct worker writers[2];
     static struct congee_pair page[4 * STAY], stay[STAY];
     struct congee_live *map;
+    struct congee *copy;
     need(congee_live_new(&map) == CONGEE_DONE, "a map");
     atomic_store(&going, true);
     for (uint64_t i = 0; i < 2; i++)
@@ -309,6 +311,14 @@ static void many_beside_writers(void) {
             need(staying(page, n) == STAY, "a page downwards has each key that stays, tried");
         congee_live_each(map, 0, UINT64_MAX, count_staying, &called);
         need(called == STAY, "each key that stays is called with");
+        called = 0;
+        congee_live_each_descending(map, 0, UINT64_MAX, count_staying, &called);
+        need(called == STAY, "each key that stays is called with downwards");
+        called = 0;
+        need(congee_live_snapshot(map, &copy) == CONGEE_DONE, "a copy");
+        congee_each(copy, 0, UINT64_MAX, count_staying, &called);
+        need(called == STAY, "each key that stays is copied");
+        congee_free(copy);
         if (round % 2)
             congee_live_clear(map);
         else
@@ -321,6 +331,46 @@ static void many_beside_writers(void) {
         end(&writers[i]);
     congee_live_clear(map);
     need(congee_live_is_empty(map), "a map that was cleared alone");
+    congee_live_free(map);
+}
+
+/* Gives all keys the number of the round, the greatest key first. */
+static void *number_down(void *at) {
+    struct worker *worker = at;
+    for (uint64_t round = 1; atomic_load(&going); round++)
+        for (uint64_t i = 4 * STAY; i > 0; i--)
+            need(congee_live_insert(worker->map, key_of(4 * (i - 1)), round, NULL) == CONGEE_PRESENT, "a key that stays");
+    return NULL;
+}
+
+static int is_no_older(struct congee_pair pair, void *with) {
+    uint64_t *newest = with;
+    need(pair.value >= *newest, "a key of a copy is as it was after the lower keys");
+    *newest = pair.value;
+    return 0;
+}
+
+/* A copy has each key as of a moment, and the moments follow the keys. So the rounds, which begin at the greatest key, ascend. */
+static void copies_follow_the_keys(void) {
+    static struct worker writer;
+    struct congee_live *map;
+    struct congee *copy;
+    uint64_t last = 0;
+    need(congee_live_new(&map) == CONGEE_DONE, "a map");
+    for (uint64_t i = 0; i < 4 * STAY; i++)
+        need(congee_live_insert(map, key_of(4 * i), 0, NULL) == CONGEE_ABSENT, "a key");
+    atomic_store(&going, true);
+    begin(&writer, map, 0, number_down);
+    for (uint64_t i = 0; i < steps / 100; i++) {
+        uint64_t newest = 0;
+        need(congee_live_snapshot(map, &copy) == CONGEE_DONE && congee_count(copy) == 4 * STAY, "a copy of all keys");
+        congee_each(copy, 0, UINT64_MAX, is_no_older, &newest);
+        need(newest >= last, "a copy is no older than the one before");
+        last = newest;
+        congee_free(copy);
+    }
+    atomic_store(&going, false);
+    end(&writer);
     congee_live_free(map);
 }
 
@@ -354,6 +404,7 @@ int main(int count_of, char **words) {
     none_is_passed();
     no_step_is_lost();
     many_beside_writers();
+    copies_follow_the_keys();
     each_counts_for_one();
     printf("%" PRIu64 " pairs popped by %d threads beside %d, each by one\n", popped, TAKERS, MAKERS);
     return 0;
