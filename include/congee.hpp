@@ -241,6 +241,19 @@ public:
                 f);
     }
     template <class F> void each(F f) const { each(0, UINT64_MAX, f); }
+    /* Calls the function with the key and the value of each pair from last down to first, keys descending. The call reads
+     * pages of 256 pairs. The function may change the map, and gets a page's pairs as they were when the page was read. */
+    template <class F> void each_descending(std::uint64_t first, std::uint64_t last, F f) const {
+        const congee *of = map_;
+        if (of && first <= last)
+            inner::each_down<256>(
+                first, last,
+                [of](std::uint64_t low, std::uint64_t high, congee_pair *pairs, std::size_t n) {
+                    return congee_range_descending(of, low, high, pairs, n);
+                },
+                f);
+    }
+    template <class F> void each_descending(F f) const { each_descending(0, UINT64_MAX, f); }
 
     /* Sets the key's value. Returns the key's place, and whether the key is new. */
     std::pair<const_iterator, bool> insert_or_assign(std::uint64_t key, std::uint64_t value) {
@@ -272,6 +285,15 @@ public:
         erase(it.at_.key);
         return upper_bound(it.at_.key);
     }
+    /* Removes the keys from first to last, both included, and returns how many. */
+    size_type erase_range(std::uint64_t first, std::uint64_t last) {
+        return map_ ? congee_remove_range_inclusive(map_, first, last) : 0;
+    }
+    /* Removes the key. Returns the removed value, or none if the key was absent. */
+    std::optional<std::uint64_t> take(std::uint64_t key) {
+        std::uint64_t value = 0;
+        return map_ && congee_remove(map_, key, &value) ? std::optional<std::uint64_t>(value) : std::nullopt;
+    }
     /* Erases the keys from the place `first` on and below the place `last`, and returns `last`. */
     const_iterator erase(const const_iterator &first, const const_iterator &last) {
         if (first.there_ && !(last.there_ && last.at_.key <= first.at_.key))
@@ -291,6 +313,27 @@ public:
      * key's value is in `expected` then, and for an absent key `expected` is unchanged. */
     bool compare_exchange(std::uint64_t key, std::uint64_t &expected, std::uint64_t desired) {
         return map_ && congee_compare_exchange(map_, key, expected, desired, &expected) == 1;
+    }
+    /* Removes the key if its value is `expected`, and returns true. Otherwise returns false: a present key's value is in
+     * `expected` then, and for an absent key `expected` is unchanged. */
+    bool compare_erase(std::uint64_t key, std::uint64_t &expected) {
+        return map_ && congee_compare_remove(map_, key, expected, &expected) == 1;
+    }
+    /* Adds n to the key's value, modulo 2^64, and returns the value before. A new key gets n as value, and 0 is returned. */
+    std::uint64_t fetch_add(std::uint64_t key, std::uint64_t n) {
+        std::uint64_t before = 0;
+        inner::made(congee_add(native(), key, n, &before));
+        return before;
+    }
+    /* Changes the key's value by a function of std::optional<std::uint64_t>: f gets the value, or none for an absent key, and
+     * returns the value that the key gets, or none for no such key. Returns the value before, or none. */
+    template <class F> std::optional<std::uint64_t> compute(std::uint64_t key, F f) {
+        const std::optional<std::uint64_t> before = get(key), after = f(before);
+        if (after)
+            insert_or_assign(key, *after);
+        else if (before)
+            erase(key);
+        return before;
     }
     void clear() {
         if (map_)
@@ -333,6 +376,10 @@ public:
     }
     friend bool operator!=(const map &a, const map &b) { return !(a == b); }
 
+    /* The bytes that the nodes take by their stated sizes, and the limit, UINT64_MAX for none. */
+    std::uint64_t charged() const { return map_ ? congee_charged(map_) : 0; }
+    std::uint64_t limit() const { return map_ ? congee_limit(map_) : UINT64_MAX; }
+
     /* Returns the map of congee.h, for calls that the class doesn't have. */
     congee *native() {
         if (!map_)
@@ -366,6 +413,13 @@ namespace inner {
 /* The calls of a handle of each kind, by common names. */
 struct live_calls {
     using native = congee_live;
+    using native_note = struct congee_live_note;
+    static constexpr auto note = congee_live_note;
+    static constexpr auto learn = congee_live_learn;
+    static constexpr auto note_free = congee_live_note_free;
+    static constexpr auto meet = congee_live_meet;
+    static constexpr auto charged = congee_live_charged;
+    static constexpr auto limit = congee_live_limit;
     static constexpr auto another = congee_live_another;
     static constexpr auto free = congee_live_free;
     static constexpr auto get = congee_live_get;
@@ -392,6 +446,13 @@ struct live_calls {
 
 struct shared_calls {
     using native = congee_shared;
+    using native_note = struct congee_shared_note;
+    static constexpr auto note = congee_shared_note;
+    static constexpr auto learn = congee_shared_learn;
+    static constexpr auto note_free = congee_shared_note_free;
+    static constexpr auto meet = congee_shared_meet;
+    static constexpr auto charged = congee_shared_charged;
+    static constexpr auto limit = congee_shared_limit;
     static constexpr auto another = congee_shared_another;
     static constexpr auto free = congee_shared_free;
     static constexpr auto get = congee_shared_get;
@@ -414,6 +475,24 @@ struct shared_calls {
     static constexpr auto clear = congee_shared_clear;
     static constexpr auto is_empty = congee_shared_is_empty;
     static constexpr auto count = congee_shared_count;
+};
+
+template <class C> class handle;
+
+/* A note of the history that a handle has seen, for a handle on another thread (congee_live_note, congee_shared_note). */
+template <class C> class note {
+public:
+    note(note &&other) noexcept : note_(std::exchange(other.note_, nullptr)) {}
+    note &operator=(note &&other) noexcept {
+        std::swap(note_, other.note_);
+        return *this;
+    }
+    ~note() { C::note_free(note_); }
+
+private:
+    friend class handle<C>;
+    explicit note(typename C::native_note *made) : note_(made) {}
+    typename C::native_note *note_;
 };
 
 /* A handle of a map that threads share, an object for each thread. A copy is one more handle, which begins with the history
@@ -569,8 +648,34 @@ public:
                 f);
     }
     template <class F> void each_descending(F f) { each_descending(0, UINT64_MAX, f); }
+    /* Inserts the pairs whose keys are absent, one by one. Calls of other threads come in between. */
+    template <class I, class = typename std::iterator_traits<I>::iterator_category> void insert(I first, I last) {
+        for (; first != last; ++first)
+            try_emplace(std::get<0>(*first), std::get<1>(*first));
+    }
+    void insert(std::initializer_list<pair> pairs) { insert(pairs.begin(), pairs.end()); }
+    /* Returns a copy of the pairs, made of pages of 64 pairs, without a limit. The copy has each key as of a moment of the
+     * call, and each key that is present throughout is in the copy. Calls of other threads come in between two pages, and of a
+     * live map within a page. So a map that others change may never have had just these pairs. */
+    map snapshot() {
+        map copy;
+        each([&copy](std::uint64_t key, std::uint64_t value) { copy.insert_or_assign(key, value); });
+        return copy;
+    }
     bool empty() { return C::is_empty(map_); }
     std::uint64_t size() { return C::count(map_); }
+    /* The bytes that count against the limit, and the limit: UINT64_MAX for none, and in shards the sum of the shards'. */
+    std::uint64_t charged() { return C::charged(map_); }
+    std::uint64_t limit() { return C::limit(map_); }
+    /* Orders two handles of one map in time: both have then seen all that either had seen. */
+    void meet(handle &other) { C::meet(map_, other.map_); }
+    /* Returns a note of what this handle has seen, and orders this handle after a note of another handle of the map. */
+    inner::note<C> note() {
+        typename C::native_note *it = nullptr;
+        made(C::note(map_, &it));
+        return inner::note<C>(it);
+    }
+    void learn(inner::note<C> &of) { C::learn(map_, of.note_); }
     /* Returns the handle in C, for calls that the class doesn't have. */
     native_type *native() { return map_; }
 

@@ -79,9 +79,34 @@ static void at_random(map &ours, std_map &theirs, unsigned calls) {
         std::uint64_t shift = dice() % 60, k = (dice() % 512) << shift, v = dice();
         switch (dice() % 8) {
         case 0:
-        case 1:
             CHECK(ours.insert_or_assign(k, v).second == theirs.insert_or_assign(k, v).second);
             break;
+        case 1: {
+            // (changes by a function, sums and comparisons)
+            auto it = theirs.find(k);
+            const bool was = it != theirs.end();
+            const std::uint64_t before = was ? it->second : 0;
+            auto is_before = [was, before](const std::optional<std::uint64_t> &found) {
+                return found.has_value() == was && found.value_or(0) == before;
+            };
+            std::uint64_t expected = v % 2 && was ? before : v;
+            if (v % 8 < 2) {
+                using value = std::optional<std::uint64_t>;
+                CHECK(is_before(ours.compute(k, [](value half) { return half.value_or(0) > 1 ? value(*half / 2) : value(); })));
+                before > 1 ? void(it->second /= 2) : void(theirs.erase(k));
+            } else if (v % 8 < 4) {
+                CHECK(ours.fetch_add(k, v) == before);
+                theirs[k] += v;
+            } else if (v % 8 < 6) {
+                const bool is_expected = was && before == expected;
+                CHECK(ours.compare_erase(k, expected) == is_expected && (!was || expected == before));
+                is_expected ? void(theirs.erase(k)) : void();
+            } else {
+                CHECK(is_before(ours.take(k)));
+                theirs.erase(k);
+            }
+            break;
+        }
         case 2:
             CHECK(ours.try_emplace(k, v).first->second == theirs.try_emplace(k, v).first->second);
             break;
@@ -105,11 +130,14 @@ static void at_random(map &ours, std_map &theirs, unsigned calls) {
             break;
         }
         case 6: {
-            std::uint64_t high = k + (dice() % 64 << shift), sum = 0, sum_theirs = 0;
+            std::uint64_t high = k + (dice() % 64 << shift), sum = 0, sum_theirs = 0, down = 0, down_theirs = 0;
             ours.each(k, high, [&](std::uint64_t key, std::uint64_t value) { sum = sum * 3 + (key ^ value); });
+            ours.each_descending(k, high, [&](std::uint64_t key, std::uint64_t value) { down = down * 3 + (key ^ value); });
             for (auto it = theirs.lower_bound(k); it != theirs.end() && it->first <= high; ++it)
                 sum_theirs = sum_theirs * 3 + (it->first ^ it->second);
-            CHECK(sum == sum_theirs);
+            for (auto it = high < k ? theirs.begin() : theirs.upper_bound(high); it != theirs.begin() && (--it)->first >= k;)
+                down_theirs = down_theirs * 3 + (it->first ^ it->second);
+            CHECK(sum == sum_theirs && down == down_theirs);
             break;
         }
         default: {
@@ -142,6 +170,22 @@ static void changes() {
     for (auto at = m.begin(); at != m.end() && m.size() < 50; ++at)
         m[at->first + 1] = 0;
     CHECK(m.size() == 50);
+}
+
+// Ranges that are erased, what is charged, and the limit.
+static void ranges() {
+    map m;
+    for (std::uint64_t key = 0; key < 300; key++)
+        m[key * 3] = key;
+    m[UINT64_MAX] = 1;
+    CHECK(m.erase_range(1, 2) == 0 && m.erase_range(9, 6) == 0 && m.erase_range(3, 6) == 2 && m.size() == 299);
+    CHECK(m.erase_range(0, 0) == 1 && m.erase_range(897, UINT64_MAX) == 2 && m.find(894)->second == 298);
+    CHECK(m.limit() == UINT64_MAX && m.charged() > 2104 && m.erase_range(0, UINT64_MAX) == 296 && m.empty());
+    map tight = map::with_limit(5000), moved = std::move(tight);
+    CHECK(moved.limit() == 5000 && moved.charged() == 2104 && tight.charged() == 0 && tight.erase_range(0, 9) == 0);
+    CHECK(!tight.take(1) && !tight.compute(1, [](auto it) { return it; }) && tight.empty());
+    std::uint64_t expected = 7;
+    CHECK(!tight.compare_erase(1, expected) && expected == 7 && tight.fetch_add(1, 2) == 0 && tight.at(1) == 2);
 }
 
 static void moves() {
@@ -226,6 +270,26 @@ template <class M> static void in_threads(M counts) {
     CHECK(counts.erase_range(10, 309) == 290 && counts.erase_range(10, 309) == 0 && counts.erase_range(9, 8) == 0);
     CHECK(counts.pop_first() == congee_cpp::pair(0, 0) && counts.pop_last()->first == std::uint64_t{9} << 40);
     CHECK(counts.size() == 17);
+    map copy = counts.snapshot();
+    CHECK(copy.size() == 17 && copy.limit() == UINT64_MAX && copy.begin()->first == 1);
+    counts.each([&](std::uint64_t key, std::uint64_t value) { CHECK(copy.get(key) == value); });
+    copy.clear();
+    CHECK(counts.size() == 17);
+    counts.insert({{1, 100}, {11, 110}});
+    CHECK(counts.get(1) == 1u && counts.get(11) == 110u && counts.take(11) == 110u);
+    const std_map more{{2, 200}, {12, 120}};
+    counts.insert(more.begin(), more.end());
+    CHECK(counts.get(2) == 2u && counts.take(12) == 120u);
+    CHECK(counts.charged() > 0 && counts.charged() <= counts.limit());
+    M third = counts;
+    auto noted = counts.note();
+    std::thread learner([&third, &noted] {
+        auto own = std::move(noted);
+        third.learn(own);
+        CHECK(third.get(1) == 1u);
+    });
+    learner.join();
+    third.meet(counts);
     M other = counts, moved = std::move(counts);
     counts = other;
     moved.insert_or_assign(3, 30);
@@ -263,10 +327,13 @@ int main() {
     CHECK(lines(ours) == lines(theirs));
     at_random(ours, theirs, 200000);
     changes();
+    ranges();
     moves();
     refusals();
     in_threads(live_map());
     in_threads(live_map(8 << 20));
+    CHECK(live_map(8 << 20).limit() == 8 << 20 && shared_map(8000).limit() == 8000);
+    CHECK(live_map().limit() == UINT64_MAX && shared_map::sharded(64 * 9000).limit() == 64 * 9000);
     in_threads(shared_map());
     in_threads(shared_map::sharded());
     pops_in_threads(live_map(), live_map());
