@@ -414,6 +414,18 @@ impl Frozen {
     pub fn limit(&self) -> u64 {
         self.limit
     }
+
+    /// Returns the sum in bytes of the stated sizes of the map's nodes, and the limit that the map was made with.
+    ///
+    /// ```
+    /// # fn main() -> Result<(), Box<dyn std::error::Error>> {
+    /// assert_eq!(proved_congee::Map::with_limit(5000)?.freeze()?.usage(), (2104, 5000));
+    /// # Ok(())
+    /// # }
+    /// ```
+    pub fn usage(&self) -> (u64, u64) {
+        (self.charged, self.limit)
+    }
 }
 
 impl Drop for Frozen {

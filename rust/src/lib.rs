@@ -103,6 +103,7 @@ pub mod keyed;
 mod live;
 mod loops;
 mod map;
+mod owner;
 mod pages;
 mod shared;
 

@@ -2,15 +2,15 @@
 
 use crate::loops;
 use crate::map::{as_length, if_expected, ExtendError};
+use crate::owner::Owner;
 use crate::pages::{Keys, Range, Values};
 use crate::shared::{if_made, next_map, unless_busy, waiting, waiting_for_memory, Busy, TryError};
 use crate::sys::*;
-use crate::{OutOfMemory, Pair};
+use crate::{Map, OutOfMemory, Pair};
 use std::borrow::Borrow;
 use std::convert::Infallible;
 use std::fmt;
 use std::ops::RangeBounds;
-use std::sync::{Mutex, MutexGuard, PoisonError};
 
 /// A map that threads share, each by a [`LiveGuard`] of its own, and read without a lock. A look-up writes nothing that
 /// other threads read. A writer locks one or two nodes at a time. An empty node leaves the tree, and is used again. For
@@ -45,11 +45,13 @@ use std::sync::{Mutex, MutexGuard, PoisonError};
 /// # Ok(())
 /// # }
 /// ```
+///
+/// A clone is one more owner of the same map, as a clone of an `Arc` is. It takes no memory, and waits for nobody.
 #[doc(alias("concurrent", "lock_free"))]
-#[derive(Debug)]
+#[derive(Clone, Debug)]
 pub struct LiveMap {
     // (the library takes a guard as its own, also where it makes another)
-    first: Mutex<LiveGuard>,
+    first: Owner<LiveGuard>,
 }
 
 impl LiveMap {
@@ -96,10 +98,10 @@ impl LiveMap {
         let mut made = LiveHandle::none();
         match unsafe { congee_c_live_new(bytes, &mut made) } {
             0 => Ok(LiveMap {
-                first: Mutex::new(LiveGuard {
+                first: Owner::new(LiveGuard {
                     guard: made.guard,
                     map: next_map(),
-                }),
+                })?,
             }),
             _ => Err(OutOfMemory),
         }
@@ -116,7 +118,7 @@ impl LiveMap {
     /// # }
     /// ```
     pub fn limit(&self) -> u64 {
-        self.first().limit()
+        self.first.first().limit()
     }
 
     /// Returns the bytes of all segments that the map has so far, in constant time. Waits while another thread makes a
@@ -133,7 +135,7 @@ impl LiveMap {
     /// ```
     #[doc(alias("bytes", "memory_usage", "stats"))]
     pub fn charged(&self) -> u64 {
-        self.first().charged()
+        self.first.first().charged()
     }
 
     /// Returns the bytes of all segments that the map has so far, and the limit, in constant time. The bytes are at most
@@ -147,12 +149,7 @@ impl LiveMap {
     /// # }
     /// ```
     pub fn usage(&self) -> (u64, u64) {
-        self.first().usage()
-    }
-
-    fn first(&self) -> MutexGuard<'_, LiveGuard> {
-        // (a call that panicked left the guard as it was)
-        self.first.lock().unwrap_or_else(PoisonError::into_inner)
+        self.first.first().usage()
     }
 
     /// Makes a guard, by which one thread at a time calls the map. A guard may go to another thread, and may outlive this
@@ -171,7 +168,7 @@ impl LiveMap {
     /// ```
     #[doc(alias("epoch", "handle"))]
     pub fn pin(&self) -> Result<LiveGuard, OutOfMemory> {
-        self.first().try_clone()
+        self.first.first().try_clone()
     }
 }
 
@@ -1415,6 +1412,27 @@ impl LiveGuard {
     #[doc(alias = "drain")]
     pub fn remove_range(&self, bounds: impl RangeBounds<u64>) -> u64 {
         loops::remove_range(self, bounds)
+    }
+
+    /// Copies the pairs into a map of their own, without a limit. The copy is of no single moment: each key is read at a
+    /// moment of the call, and no moment is before the moment of a lower key. A key that is present throughout the call is
+    /// in the copy. If other calls change the map, the map may never have had just these pairs. [`Map::freeze`] makes
+    /// readers of the copy. Nothing is locked. While writers lock or change nodes on the way, the call yields and tries
+    /// again. Returns [`OutOfMemory`], with nothing changed, if there is no memory for the copy.
+    ///
+    /// ```
+    /// # fn main() -> Result<(), Box<dyn std::error::Error>> {
+    /// let guard = proved_congee::LiveMap::new()?.pin()?;
+    /// guard.extend([(5, 50), (7, 70), (9, 90)])?;
+    /// let copy = guard.snapshot()?;
+    /// guard.remove(7);
+    /// assert!(copy.iter().eq([(5, 50), (7, 70), (9, 90)]));
+    /// # Ok(())
+    /// # }
+    /// ```
+    #[doc(alias = "to_owned")]
+    pub fn snapshot(&self) -> Result<Map, OutOfMemory> {
+        loops::snapshot(self)
     }
 
     /// Calls `keep` with each pair, keys ascending, while nothing is locked. Each pair is read at a moment of its own, and

@@ -3,7 +3,7 @@
 use crate::map::ExtendError;
 use crate::pages::{Range, Source};
 use crate::shared::Guard;
-use crate::{LiveGuard, OutOfMemory};
+use crate::{LiveGuard, Map, OutOfMemory};
 use std::ops::RangeBounds;
 
 /// A guard's calls, for the loops below. Each call waits while busy.
@@ -113,6 +113,10 @@ pub(crate) fn remove_range(caller: &impl Caller, bounds: impl RangeBounds<u64>) 
     range(caller, bounds)
         .map(|(key, _)| u64::from(caller.remove(key).is_some()))
         .sum()
+}
+
+pub(crate) fn snapshot(caller: &impl Caller) -> Result<Map, OutOfMemory> {
+    Map::try_from_iter(range(caller, ..))
 }
 
 pub(crate) fn retain(caller: &impl Caller, mut keep: impl FnMut(u64, u64) -> bool) {

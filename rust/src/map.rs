@@ -174,8 +174,27 @@ impl Map {
         unless_refused(code, before)
     }
 
-    /// Inserts the pairs one by one. The first refused pair ends the call, and the pairs before are in the map. The error
-    /// has their number and the refused pair.
+    /// Inserts the pairs one by one, so of two pairs with one key the later value remains. The first refused pair ends the
+    /// call, and the pairs before are in the map. The error has their number and the refused pair.
+    ///
+    /// ```
+    /// # fn main() -> Result<(), proved_congee::ExtendError> {
+    /// let mut map = proved_congee::Map::new().unwrap();
+    /// map.extend([(7, 70), (5, 50), (7, 71)])?;
+    /// assert!(map.iter().eq([(5, 50), (7, 71)]));
+    /// # Ok(())
+    /// # }
+    /// ```
+    #[doc(alias = "insert_many")]
+    pub fn extend(
+        &mut self,
+        pairs: impl IntoIterator<Item = (u64, u64)>,
+    ) -> Result<(), ExtendError> {
+        self.try_extend(pairs)
+    }
+
+    /// Inserts the pairs one by one, as [`extend`](Map::extend), which is the call's name in all forms. The first refused
+    /// pair ends the call, and the pairs before are in the map. The error has their number and the refused pair.
     ///
     /// ```
     /// use proved_congee::Map;
@@ -257,9 +276,26 @@ impl Map {
     /// ```
     #[doc(alias("entry", "or_default", "or_insert"))]
     pub fn get_or_insert(&mut self, key: u64, value: u64) -> Result<u64, OutOfMemory> {
+        Ok(self.insert_absent(key, value)?.unwrap_or(value))
+    }
+
+    /// Inserts the value if the key is absent, and returns `None`. Otherwise changes nothing, and returns the present
+    /// value. Returns [`OutOfMemory`], with the map unchanged, only for a new key that needs a new node or a larger one.
+    ///
+    /// ```
+    /// # fn main() -> Result<(), proved_congee::OutOfMemory> {
+    /// let mut map = proved_congee::Map::new()?;
+    /// assert_eq!(map.insert_absent(7, 70)?, None);
+    /// assert_eq!(map.insert_absent(7, 71)?, Some(70));
+    /// assert_eq!(map.get(7), Some(70));
+    /// # Ok(())
+    /// # }
+    /// ```
+    #[doc(alias("insert_if_absent", "try_insert"))]
+    pub fn insert_absent(&mut self, key: u64, value: u64) -> Result<Option<u64>, OutOfMemory> {
         let mut found = 0;
         let code = unsafe { congee_c_get_or_insert(&mut self.handle(), key, value, &mut found) };
-        Ok(unless_refused(code, found)?.unwrap_or(value))
+        unless_refused(code, found)
     }
 
     /// Returns the key's value. For an absent key the closure is called once, and its value is inserted and returned. A new
@@ -799,6 +835,19 @@ impl Map {
     /// ```
     pub fn limit(&self) -> u64 {
         unsafe { congee_c_limit(&mut self.handle()) }
+    }
+
+    /// Returns the sum in bytes of the stated sizes of the map's nodes, and the limit, in constant time. The sum is at most
+    /// the limit, which is proved.
+    ///
+    /// ```
+    /// # fn main() -> Result<(), proved_congee::OutOfMemory> {
+    /// assert_eq!(proved_congee::Map::with_limit(5000)?.usage(), (2104, 5000));
+    /// # Ok(())
+    /// # }
+    /// ```
+    pub fn usage(&self) -> (u64, u64) {
+        (self.charged(), self.limit())
     }
 
     /// Freezes the map: nobody changes it from then on, and several readers look up side by side. No node moves or is

@@ -2,14 +2,14 @@
 
 use crate::loops;
 use crate::map::{as_length, if_expected, ExtendError};
+use crate::owner::Owner;
 use crate::pages::{Keys, Range, Values};
 use crate::sys::*;
-use crate::{OutOfMemory, Pair};
+use crate::{Map, OutOfMemory, Pair};
 use std::borrow::Borrow;
 use std::fmt;
 use std::ops::RangeBounds;
 use std::sync::atomic::{AtomicU64, Ordering};
-use std::sync::{Mutex, PoisonError};
 use std::thread;
 
 /// A map that threads share, each by a [`Guard`] of its own. The calls are those of the guards, which take `&self`.
@@ -43,11 +43,13 @@ use std::thread;
 /// # Ok(())
 /// # }
 /// ```
+///
+/// A clone is one more owner of the same map, as a clone of an `Arc` is. It takes no memory, and waits for nobody.
 #[doc(alias = "concurrent")]
-#[derive(Debug)]
+#[derive(Clone, Debug)]
 pub struct SharedMap {
     // (the library takes a guard as its own, also where it makes another)
-    first: Mutex<Guard>,
+    first: Owner<Guard>,
     limit: u64,
 }
 
@@ -129,10 +131,11 @@ impl SharedMap {
         let mut made = SharedHandle::none();
         match unsafe { make(bytes, &mut made) } {
             0 => Ok(SharedMap {
-                first: Mutex::new(Guard {
+                first: Owner::new(Guard {
                     guard: made.guard,
                     map: next_map(),
-                }),
+                    limit: bytes,
+                })?,
                 limit: bytes,
             }),
             _ => Err(OutOfMemory),
@@ -154,15 +157,11 @@ impl SharedMap {
     /// ```
     #[doc(alias("epoch", "handle"))]
     pub fn pin(&self) -> Result<Guard, OutOfMemory> {
-        // (a call that panicked left the guard as it was)
-        self.first
-            .lock()
-            .unwrap_or_else(PoisonError::into_inner)
-            .try_clone()
+        self.first.first().try_clone()
     }
 
-    /// Makes one more owner of the same map, as a clone of an `Arc` would be. Waits while another thread makes a guard.
-    /// Returns [`OutOfMemory`] if there is no memory for a guard.
+    /// Returns one more owner of the same map, as a clone of an `Arc` is. Doesn't wait, takes no memory, and is always
+    /// `Ok`, so `clone` serves as well.
     ///
     /// ```
     /// # fn main() -> Result<(), proved_congee::OutOfMemory> {
@@ -176,10 +175,7 @@ impl SharedMap {
     /// ```
     #[doc(alias = "clone")]
     pub fn try_clone(&self) -> Result<SharedMap, OutOfMemory> {
-        Ok(SharedMap {
-            first: Mutex::new(self.pin()?),
-            limit: self.limit,
-        })
+        Ok(self.clone())
     }
 
     /// Returns the limit in bytes that the map was made with, or `u64::MAX` for none.
@@ -192,6 +188,36 @@ impl SharedMap {
     /// ```
     pub fn limit(&self) -> u64 {
         self.limit
+    }
+
+    /// Returns the sum in bytes of the stated sizes of the map's nodes, which counts against the limit. Waits while another
+    /// thread makes a guard, or while the map is busy.
+    ///
+    /// ```
+    /// # fn main() -> Result<(), proved_congee::OutOfMemory> {
+    /// let map = proved_congee::SharedMap::new()?;
+    /// map.pin()?.insert(7, 70)?;
+    /// assert_eq!(map.charged(), 2104 + 64);
+    /// # Ok(())
+    /// # }
+    /// ```
+    #[doc(alias("bytes", "memory_usage", "stats"))]
+    pub fn charged(&self) -> u64 {
+        self.first.first().charged()
+    }
+
+    /// Returns the sum in bytes of the stated sizes of the map's nodes, and the limit. The sum is at most the limit. In
+    /// shards the limit is the sum of the shards' limits. Waits while another thread makes a guard, or while the map is
+    /// busy.
+    ///
+    /// ```
+    /// # fn main() -> Result<(), proved_congee::OutOfMemory> {
+    /// assert_eq!(proved_congee::SharedMap::with_limit(5000)?.usage(), (2104, 5000));
+    /// # Ok(())
+    /// # }
+    /// ```
+    pub fn usage(&self) -> (u64, u64) {
+        self.first.first().usage()
     }
 }
 
@@ -295,6 +321,7 @@ pub struct Guard {
     guard: *mut OneGuardForEachThread,
     // (which map it is of)
     map: u64,
+    limit: u64,
 }
 
 /// A note of the history that a [`Guard`] had seen, for a guard on another thread to learn ([`Guard::note`]).
@@ -413,6 +440,7 @@ impl Guard {
             0 => Ok(Guard {
                 guard: made.guard,
                 map: self.map,
+                limit: self.limit,
             }),
             _ => Err(OutOfMemory),
         }
@@ -1373,6 +1401,27 @@ impl Guard {
         loops::remove_range(self, bounds)
     }
 
+    /// Copies the pairs into a map of their own, without a limit. The copy is made of pages of 4, then 16, and then 64
+    /// pairs, each page of one moment. Other calls come in between two pages. A key that is present throughout the call is
+    /// in the copy, with a value that it had meanwhile. If other calls change the map, the map may never have had just
+    /// these pairs. [`Map::freeze`] makes readers of the copy. While other calls have the lock, the call yields and tries
+    /// again. Returns [`OutOfMemory`], with nothing changed, if there is no memory for the copy.
+    ///
+    /// ```
+    /// # fn main() -> Result<(), Box<dyn std::error::Error>> {
+    /// let guard = proved_congee::SharedMap::new()?.pin()?;
+    /// guard.extend([(5, 50), (7, 70), (9, 90)])?;
+    /// let copy = guard.snapshot()?;
+    /// guard.remove(7);
+    /// assert!(copy.iter().eq([(5, 50), (7, 70), (9, 90)]));
+    /// # Ok(())
+    /// # }
+    /// ```
+    #[doc(alias = "to_owned")]
+    pub fn snapshot(&self) -> Result<Map, OutOfMemory> {
+        loops::snapshot(self)
+    }
+
     /// Calls `keep` with each pair, keys ascending, outside of the lock. Removes the pairs for which `keep` returns false,
     /// unless another call has changed the value meanwhile. Other calls come in between. While other calls have the lock,
     /// the call yields and tries again. Never out of memory.
@@ -1515,6 +1564,18 @@ impl Guard {
     /// ```
     pub fn try_charged(&self) -> Result<u64, Busy> {
         self.try_usage().map(|usage| usage.0)
+    }
+
+    /// Returns the limit in bytes that the map was made with, or `u64::MAX` for none.
+    ///
+    /// ```
+    /// # fn main() -> Result<(), proved_congee::OutOfMemory> {
+    /// assert_eq!(proved_congee::SharedMap::with_limit(10_000)?.pin()?.limit(), 10_000);
+    /// # Ok(())
+    /// # }
+    /// ```
+    pub fn limit(&self) -> u64 {
+        self.limit
     }
 
     /// What the nodes are charged, and the limit. The first is at most the second. In shards the limit is the sum of the

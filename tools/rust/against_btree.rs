@@ -155,8 +155,13 @@ fn main() {
                 assert_eq!(map.add(at, number), Ok(wanted));
             }
             12 => {
+                let before = plain.get(&at).copied();
                 let wanted = *plain.entry(at).or_insert(value);
-                assert_eq!(map.get_or_insert(at, value), Ok(wanted));
+                match next(&mut seed) % 3 {
+                    0 => assert_eq!(map.get_or_insert(at, value), Ok(wanted)),
+                    1 => assert_eq!(map.get_or_insert_with(at, || value), Ok(wanted)),
+                    _ => assert_eq!(map.insert_absent(at, value), Ok(before)),
+                }
             }
             13 => {
                 let wanted = match plain.get(&at).copied() {
@@ -196,6 +201,12 @@ fn main() {
                         assert!(asked.iter().eq(plain.keys()));
                         plain.retain(|key, value| (*key ^ *value) % 4 > 0);
                     }
+                    2..=4 => {
+                        // (of two pairs with one key the later one counts)
+                        let more = (0..100).map(|i| (at.wrapping_add(i / 2), i));
+                        assert_eq!(map.extend(more.clone()), Ok(()));
+                        plain.extend(more);
+                    }
                     _ => check_removal(&mut map, &mut plain, &mut seed),
                 }
             }
@@ -233,6 +244,7 @@ fn main() {
     assert!(map.iter().eq(pairs()));
     assert!(map.keys().eq(plain.keys().copied()) && map.values().eq(plain.values().copied()));
     assert_eq!(map.is_empty(), plain.is_empty());
+    assert_eq!(map.usage(), (map.charged(), u64::MAX));
     assert_eq!(Map::try_from_iter(pairs()).as_ref(), Ok(&map));
     let map = read_side_by_side(map, &plain);
     println!(

@@ -36,7 +36,7 @@ fn range<K: Ord + Copy>(dice: &mut Dice, one: K, other: K) -> Option<(Bound<K>, 
 /// Calls that all three maps have.
 macro_rules! common {
     ($map:expr, $std:expr, $dice:expr, $key:expr, $other:expr, $value:expr) => {
-        match $dice.roll(23) {
+        match $dice.roll(27) {
             0..=4 => assert_eq!(
                 $map.insert($key, $value).unwrap(),
                 $std.insert($key, $value)
@@ -91,6 +91,20 @@ macro_rules! common {
                 $map.clear();
                 $std.clear();
             }
+            23 => assert_eq!(
+                $map.get_or_insert_with($key, || $value).unwrap(),
+                *$std.entry($key).or_insert($value)
+            ),
+            24 if $dice.roll(16) == 0 => {
+                let more = [($key, $value), ($other, 1), ($key, 2)];
+                assert!($map.extend(more).is_ok());
+                $std.extend(more);
+            }
+            25 if $dice.roll(16) == 0 => {
+                assert!($map.keys().rev().eq($std.keys().rev().copied()));
+                assert!($map.values().eq($std.values().copied()));
+            }
+            26 => assert_eq!($map.usage(), ($map.charged(), $map.limit())),
             _ => {
                 if let Some(of) = range(&mut $dice, $key, $other) {
                     assert!($map.range(of).eq($std.range(of).map(copied)));
@@ -171,10 +185,37 @@ fn compare<K: Word + Ord + Debug>(calls: usize, mut key: impl FnMut(&mut Dice) -
         assert_eq!(map.iter().len(), std.len());
     }
     assert_eq!(format!("{map:?}"), format!("{std:?}"));
+    assert!(shared
+        .snapshot()
+        .unwrap()
+        .iter()
+        .eq(std_shared.iter().map(copied)));
+    assert!(live
+        .snapshot()
+        .unwrap()
+        .iter()
+        .eq(std_live.iter().map(copied)));
     assert!(shared.iter().rev().eq(std_shared.iter().rev().map(copied)));
     assert!(live.iter().rev().eq(std_live.iter().rev().map(copied)));
     assert_eq!(map, OrdMap::try_from_iter(std.iter().map(copied)).unwrap());
     assert!(map.into_iter().rev().eq(std.into_iter().rev()));
+}
+
+/// Owners, notes and meetings of typed maps for threads, and their limits.
+macro_rules! threads {
+    ($map:expr, $limit:expr) => {{
+        let map = $map.unwrap();
+        let (one, other) = (map.clone().pin().unwrap(), map.pin().unwrap());
+        std::thread::scope(|scope| {
+            let own = map.clone();
+            scope.spawn(move || own.pin().unwrap().insert(-3i32, 'a').unwrap());
+        });
+        other.learn(&one.note().unwrap());
+        one.meet(&other);
+        assert_eq!((one.get(-3), other.first()), (Some('a'), Some((-3, 'a'))));
+        assert_eq!((map.limit(), one.limit()), ($limit, $limit));
+        assert_eq!((map.usage(), map.charged()), (one.usage(), one.charged()));
+    }};
 }
 
 /// That numbers keep the order, and lead back.
@@ -234,6 +275,9 @@ fn main() {
         (i32::MAX, 7),
     ]);
     keep_the_order(&[(false, 'x'), (true, '\0'), (true, 'x')]);
+    threads!(OrdSharedMap::with_limit(9_000), 9_000);
+    threads!(OrdSharedMap::sharded_with_limit(64 * 9_000), 64 * 9_000);
+    threads!(OrdLiveMap::with_limit(90_000), 90_000);
     let number = |dice: &mut Dice| dice.roll(1 << 53) << 11;
     compare(4_000, |dice| dice.roll(256) as u8 as i8);
     compare(4_000, |dice| dice.roll(4000) as i16 - 2000);

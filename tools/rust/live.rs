@@ -111,6 +111,11 @@ fn end(guard: &LiveGuard, plain: &mut Plain, at: u64, seed: &mut u64) {
             guard.clear();
             plain.clear();
         }
+        11 => {
+            let copy = guard.snapshot().expect("there is memory");
+            assert!(copy.iter().eq(plain.iter().map(|it| (*it.0, *it.1))));
+            assert_eq!(copy.limit(), u64::MAX);
+        }
         1 => {
             guard.retain(|key, value| (key ^ value) % 4 > 0);
             plain.retain(|key, value| (*key ^ *value) % 4 > 0);
@@ -213,7 +218,8 @@ fn count(guard: &LiveGuard, plain: &Plain) {
 
 fn beside_btree() -> Result<(), OutOfMemory> {
     let map = LiveMap::new()?;
-    let guards = [map.pin()?, map.pin()?];
+    // (a clone is one more owner)
+    let guards = [map.clone().pin()?, map.pin()?];
     let mut plain = Plain::new();
     let mut seed = 7;
     count(&guards[0], &plain);
@@ -404,6 +410,8 @@ fn many_beside_writers() -> Result<(), OutOfMemory> {
             assert!(found
                 .filter(|key| key % 256 == 0)
                 .eq((0..64).rev().map(|key| key * 256)));
+            let copied = guard.snapshot()?;
+            assert!((0..64).all(|key| copied.get(key * 256) == Some(round)));
             match round % 3 {
                 0 => guard.clear(),
                 1 => guard.retain(|key, _| key % 256 > 0),
@@ -416,6 +424,28 @@ fn many_beside_writers() -> Result<(), OutOfMemory> {
     guard.clear();
     assert!(guard.is_empty());
     Ok(())
+}
+
+/// Copies beside a thread that counts up the greatest key first. The moments follow the keys, so the rounds ascend in each copy.
+fn copies_follow_the_keys() -> Result<(), OutOfMemory> {
+    let map = LiveMap::new()?;
+    let guard = map.pin()?;
+    guard.extend((0..200).map(|key| (key << 8, 0)))?;
+    thread::scope(|scope| {
+        let writer = map.pin()?;
+        scope.spawn(move || {
+            for round in 1..=300 {
+                for key in (0..200).rev() {
+                    assert_eq!(writer.insert(key << 8, round), Ok(Some(round - 1)));
+                }
+            }
+        });
+        for _ in 0..100 {
+            let rounds: Vec<u64> = guard.snapshot()?.values().collect();
+            assert!(rounds.len() == 200 && rounds.windows(2).all(|it| it[0] <= it[1]));
+        }
+        Ok(())
+    })
 }
 
 /// Closures during which another guard changes the key.
@@ -479,6 +509,7 @@ fn main() -> Result<(), OutOfMemory> {
     each_pair_to_one()?;
     computes()?;
     many_beside_writers()?;
+    copies_follow_the_keys()?;
     meddled()?;
     each_counts_for_one()?;
     println!("{CALLS} calls beside a BTreeMap, {THREADS} threads");

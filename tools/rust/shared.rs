@@ -2,7 +2,7 @@
 //! threads that change one map by every call, so that sums and counts have to agree. Each with a map under one lock, and with one
 //! in shards.
 
-use proved_congee::{Busy, Guard, OutOfMemory, Pair, SharedMap, TryError};
+use proved_congee::{Busy, Guard, Map, OutOfMemory, Pair, SharedMap, TryError};
 use std::collections::BTreeMap;
 use std::sync::OnceLock;
 use std::thread;
@@ -67,10 +67,14 @@ fn change(guard: &Guard, plain: &mut Plain, at: u64, value: u64, seed: &mut u64)
             }
         }
         5 => {
+            let before = plain.get(&at).copied();
             let wanted = *plain.entry(at).or_insert(value);
-            match waits {
-                true => assert_eq!(guard.get_or_insert(at, value), Ok(wanted)),
-                false => assert_eq!(guard.try_get_or_insert(at, value), Ok(wanted)),
+            match (waits, value) {
+                (true, 0) => assert_eq!(guard.insert_absent(at, value), Ok(before)),
+                (true, 1) => assert_eq!(guard.get_or_insert_with(at, || value), Ok(wanted)),
+                (true, _) => assert_eq!(guard.get_or_insert(at, value), Ok(wanted)),
+                (false, 0) => assert_eq!(guard.try_insert_absent(at, value), Ok(before)),
+                (false, _) => assert_eq!(guard.try_get_or_insert(at, value), Ok(wanted)),
             }
         }
         6 => {
@@ -184,6 +188,16 @@ fn end(guard: &Guard, plain: &mut Plain, at: u64, seed: &mut u64) {
             guard.clear();
             plain.clear();
         }
+        10 => {
+            let copy = guard.snapshot().expect("there is memory");
+            assert!(copy.iter().eq(plain.iter().map(|it| (*it.0, *it.1))));
+            assert_eq!(copy.limit(), u64::MAX);
+        }
+        11 => {
+            let more = (0..100).map(|i| (at.wrapping_add(i << 30), i));
+            assert!(guard.extend(more.clone()).is_ok());
+            plain.extend(more);
+        }
         1 => {
             guard.retain(|key, value| (key ^ value) % 4 > 0);
             plain.retain(|key, value| (*key ^ *value) % 4 > 0);
@@ -220,6 +234,11 @@ fn against_btree(map: SharedMap, calls: u64) -> Result<(), OutOfMemory> {
         .iter()
         .eq(plain.iter().map(|(key, value)| (*key, *value))));
     assert!(guards[1].keys().rev().eq(plain.keys().rev().copied()));
+    assert_eq!(
+        (map.charged(), map.usage()),
+        (guards[0].charged(), guards[1].usage())
+    );
+    assert_eq!((map.limit(), guards[1].limit()), (u64::MAX, u64::MAX));
     drop(map);
     assert!(guards[1].values().eq(plain.values().copied()));
     Ok(())
@@ -284,6 +303,31 @@ fn side_by_side(map: SharedMap) -> Result<(), OutOfMemory> {
     Ok(())
 }
 
+/// Copies beside threads that count up the greater of two keys first: each page is of one moment, and a later page of a later one. So
+/// each key of a copy is at least as far as the lower keys.
+fn copies_beside(map: SharedMap) -> Result<(), OutOfMemory> {
+    let guard = map.pin()?;
+    guard.extend((0..200).map(|key| (key << 8, 0)))?;
+    thread::scope(|scope| {
+        let writer = map.pin()?;
+        scope.spawn(move || {
+            for round in 1..=300 {
+                for key in (0..200).rev() {
+                    assert_eq!(writer.insert(key << 8, round), Ok(Some(round - 1)));
+                }
+            }
+        });
+        for _ in 0..100 {
+            let copy = guard.snapshot()?;
+            let rounds: Vec<u64> = copy.values().collect();
+            assert!(rounds.len() == 200 && rounds.windows(2).all(|it| it[0] <= it[1]));
+        }
+        Ok::<(), OutOfMemory>(())
+    })?;
+    assert_eq!(guard.snapshot(), Map::try_from_iter(&guard));
+    Ok(())
+}
+
 /// A shared map may be in a static, and a thread may keep its guard.
 fn in_a_static() {
     static MAP: OnceLock<SharedMap> = OnceLock::new();
@@ -306,6 +350,8 @@ fn main() -> Result<(), OutOfMemory> {
     against_btree(SharedMap::sharded()?, FEWER)?;
     side_by_side(SharedMap::new()?)?;
     side_by_side(SharedMap::sharded()?)?;
+    copies_beside(SharedMap::new()?)?;
+    copies_beside(SharedMap::sharded()?)?;
     in_a_static();
     println!(
         "{} calls by one thread, {} by {THREADS}",

@@ -1,9 +1,22 @@
 //! Counts the blocks that a program has of the C library's `malloc`: those of Rust, and those of `libcongee.a`.
 
 use std::ffi::{c_int, c_void};
+use std::ptr;
 use std::sync::atomic::{AtomicIsize, Ordering::SeqCst};
+use std::sync::OnceLock;
 
 static BLOCKS: AtomicIsize = AtomicIsize::new(0);
+static ASKED: OnceLock<fn() -> bool> = OnceLock::new();
+
+/// From now on each request for memory is refused where this returns true. It takes none itself.
+#[allow(dead_code)]
+pub fn refuse_where(is_refused: fn() -> bool) {
+    ASKED.set(is_refused).expect("once");
+}
+
+fn is_refused() -> bool {
+    ASKED.get().is_some_and(|asked| asked())
+}
 
 /// How many there are.
 pub fn blocks() -> isize {
@@ -31,6 +44,9 @@ fn counted(block: *mut c_void) -> *mut c_void {
 /// As in C.
 #[no_mangle]
 pub unsafe extern "C" fn malloc(size: usize) -> *mut c_void {
+    if is_refused() {
+        return ptr::null_mut();
+    }
     counted(__libc_malloc(size))
 }
 
@@ -39,6 +55,9 @@ pub unsafe extern "C" fn malloc(size: usize) -> *mut c_void {
 /// As in C.
 #[no_mangle]
 pub unsafe extern "C" fn calloc(count: usize, size: usize) -> *mut c_void {
+    if is_refused() {
+        return ptr::null_mut();
+    }
     counted(__libc_calloc(count, size))
 }
 
@@ -49,6 +68,9 @@ pub unsafe extern "C" fn calloc(count: usize, size: usize) -> *mut c_void {
 pub unsafe extern "C" fn realloc(block: *mut c_void, size: usize) -> *mut c_void {
     if block.is_null() {
         return malloc(size);
+    }
+    if is_refused() {
+        return ptr::null_mut();
     }
     __libc_realloc(block, size)
 }

@@ -79,8 +79,27 @@ impl<K: Word, V: Word> OrdMap<K, V> {
         Ok(map)
     }
 
-    /// Inserts the pairs one by one. The first refused pair ends the call, and the pairs before are in the map. The error
-    /// has their number and the refused pair, as numbers.
+    /// Inserts the pairs one by one, so of two pairs with one key the later value remains. The first refused pair ends
+    /// the call, and the pairs before are in the map. The error has their number and the refused pair, as numbers.
+    ///
+    /// ```
+    /// use proved_congee::keyed::OrdMap;
+    ///
+    /// # fn main() -> Result<(), Box<dyn std::error::Error>> {
+    /// let mut map = OrdMap::try_from([(-5, 'a'), (7, 'b'), (9, 'c')])?;
+    /// map.extend([(8, 'd'), (7, 'e')])?;
+    /// assert!(map.range(7..9).eq([(7, 'e'), (8, 'd')]));
+    /// # Ok(())
+    /// # }
+    /// ```
+    #[doc(alias = "insert_many")]
+    pub fn extend(&mut self, pairs: impl IntoIterator<Item = (K, V)>) -> Result<(), ExtendError> {
+        self.try_extend(pairs)
+    }
+
+    /// Inserts the pairs one by one, as [`extend`](OrdMap::extend), which is the call's name in all forms. The first refused
+    /// pair ends the call, and the pairs before are in the map. The error has their number and the refused pair, as
+    /// numbers.
     ///
     /// ```
     /// use proved_congee::keyed::OrdMap;
@@ -262,10 +281,30 @@ impl<K: Word, V: Word> OrdMap<K, V> {
     /// ```
     #[doc(alias("insert_if_absent", "try_insert"))]
     pub fn insert_absent(&mut self, key: K, value: V) -> Result<Option<V>, OutOfMemory> {
-        match self.get(key) {
-            None => self.insert(key, value),
-            found => Ok(found),
-        }
+        let found = self.map.insert_absent(key.into_u64(), value.into_u64())?;
+        Ok(found.map(V::from_u64))
+    }
+
+    /// Returns the key's value. For an absent key the closure is called once, and its value is inserted and returned. A
+    /// new key takes two calls of the library. Returns [`OutOfMemory`], with the map unchanged, only for a new key that
+    /// needs a new node or a larger one.
+    ///
+    /// ```
+    /// use proved_congee::keyed::OrdMap;
+    ///
+    /// # fn main() -> Result<(), Box<dyn std::error::Error>> {
+    /// let mut map = OrdMap::try_from([(-5, 'a'), (7, 'b'), (9, 'c')])?;
+    /// assert_eq!(map.get_or_insert_with(7, || unreachable!())?, 'b');
+    /// assert_eq!(map.get_or_insert_with(8, || 'd')?, 'd');
+    /// # Ok(())
+    /// # }
+    /// ```
+    #[doc(alias("entry", "or_insert_with"))]
+    pub fn get_or_insert_with(&mut self, key: K, f: impl FnOnce() -> V) -> Result<V, OutOfMemory> {
+        let it = self
+            .map
+            .get_or_insert_with(key.into_u64(), || f().into_u64())?;
+        Ok(V::from_u64(it))
     }
 
     /// Calls the closure once, with the key's value or `None`. Stores the value that the closure returns, or removes the
@@ -725,6 +764,67 @@ impl<K: Word, V: Word> OrdMap<K, V> {
     /// ```
     pub fn into_values(self) -> impl DoubleEndedIterator<Item = V> + ExactSizeIterator {
         self.into_iter().map(|it| it.1)
+    }
+
+    /// Returns memory that is held for removed nodes, by a move of the remaining nodes into a smaller table. Without
+    /// memory for the smaller table the call changes nothing.
+    ///
+    /// ```
+    /// use proved_congee::keyed::OrdMap;
+    ///
+    /// # fn main() -> Result<(), Box<dyn std::error::Error>> {
+    /// let mut map = OrdMap::try_from([(-5, 'a'), (7, 'b'), (9, 'c')])?;
+    /// map.clear();
+    /// map.shrink_to_fit();
+    /// assert_eq!(map.charged(), 2104);
+    /// # Ok(())
+    /// # }
+    /// ```
+    pub fn shrink_to_fit(&mut self) {
+        self.map.shrink_to_fit();
+    }
+
+    /// Returns the sum in bytes of the stated sizes of the map's nodes, in constant time: 2104 for an empty map.
+    ///
+    /// ```
+    /// use proved_congee::keyed::OrdMap;
+    ///
+    /// # fn main() -> Result<(), Box<dyn std::error::Error>> {
+    /// assert_eq!(OrdMap::<i32, char>::new()?.charged(), 2104);
+    /// # Ok(())
+    /// # }
+    /// ```
+    #[doc(alias("bytes", "memory_usage", "stats"))]
+    pub fn charged(&self) -> u64 {
+        self.map.charged()
+    }
+
+    /// Returns the limit in bytes that the map was made with, or `u64::MAX` for none.
+    ///
+    /// ```
+    /// use proved_congee::keyed::OrdMap;
+    ///
+    /// # fn main() -> Result<(), Box<dyn std::error::Error>> {
+    /// assert_eq!(OrdMap::<i32, char>::with_limit(5000)?.limit(), 5000);
+    /// # Ok(())
+    /// # }
+    /// ```
+    pub fn limit(&self) -> u64 {
+        self.map.limit()
+    }
+
+    /// Returns the sum in bytes of the stated sizes of the map's nodes, and the limit, in constant time.
+    ///
+    /// ```
+    /// use proved_congee::keyed::OrdMap;
+    ///
+    /// # fn main() -> Result<(), Box<dyn std::error::Error>> {
+    /// assert_eq!(OrdMap::<i32, char>::with_limit(5000)?.usage(), (2104, 5000));
+    /// # Ok(())
+    /// # }
+    /// ```
+    pub fn usage(&self) -> (u64, u64) {
+        self.map.usage()
     }
 
     /// Returns the map of numbers.

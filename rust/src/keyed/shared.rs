@@ -1,7 +1,7 @@
 //! The typed map that threads share under locks.
 
-use super::{bounds, pair, Range, Word};
-use crate::{ExtendError, Guard, OutOfMemory, SharedMap};
+use super::{bounds, pair, OrdMap, Range, Word};
+use crate::{ExtendError, Guard, Note, OutOfMemory, SharedMap};
 use std::fmt;
 use std::marker::PhantomData;
 use std::ops::RangeBounds;
@@ -86,6 +86,22 @@ impl<K: Word, V: Word> OrdSharedMap<K, V> {
         Ok(SharedMap::sharded()?.into())
     }
 
+    /// Makes an empty map in 64 shards with a lock each, with a limit in bytes, as [`SharedMap::sharded_with_limit`]
+    /// counts them. The 64 first nodes take 134,656 bytes, and a lower limit makes no map.
+    ///
+    /// ```
+    /// use proved_congee::keyed::OrdSharedMap;
+    ///
+    /// # fn main() -> Result<(), Box<dyn std::error::Error>> {
+    /// assert!(OrdSharedMap::<i32, char>::sharded_with_limit(134_656)?.pin()?.is_empty());
+    /// assert!(OrdSharedMap::<i32, char>::sharded_with_limit(134_655).is_err());
+    /// # Ok(())
+    /// # }
+    /// ```
+    pub fn sharded_with_limit(bytes: u64) -> Result<Self, OutOfMemory> {
+        Ok(SharedMap::sharded_with_limit(bytes)?.into())
+    }
+
     /// Makes a guard, by which one thread at a time calls the map, as [`SharedMap::pin`]. Returns [`OutOfMemory`] if there
     /// is no memory for a guard.
     ///
@@ -105,6 +121,54 @@ impl<K: Word, V: Word> OrdSharedMap<K, V> {
         Ok(self.map.pin()?.into())
     }
 
+    /// Returns the sum in bytes of the stated sizes of the map's nodes, which counts against the limit. Waits while
+    /// another thread makes a guard, or while the map is busy.
+    ///
+    /// ```
+    /// use proved_congee::keyed::OrdSharedMap;
+    ///
+    /// # fn main() -> Result<(), Box<dyn std::error::Error>> {
+    /// let map = OrdSharedMap::<i32, char>::with_limit(10_000)?;
+    /// assert_eq!(map.charged(), 2104);
+    /// # Ok(())
+    /// # }
+    /// ```
+    #[doc(alias("bytes", "memory_usage", "stats"))]
+    pub fn charged(&self) -> u64 {
+        self.map.charged()
+    }
+
+    /// Returns the limit in bytes that the map was made with, or `u64::MAX` for none.
+    ///
+    /// ```
+    /// use proved_congee::keyed::OrdSharedMap;
+    ///
+    /// # fn main() -> Result<(), Box<dyn std::error::Error>> {
+    /// let map = OrdSharedMap::<i32, char>::with_limit(10_000)?;
+    /// assert_eq!(map.limit(), 10_000);
+    /// # Ok(())
+    /// # }
+    /// ```
+    pub fn limit(&self) -> u64 {
+        self.map.limit()
+    }
+
+    /// Returns the sum in bytes of the stated sizes of the map's nodes, which counts against the limit, and the limit.
+    /// Waits while another thread makes a guard, or while the map is busy.
+    ///
+    /// ```
+    /// use proved_congee::keyed::OrdSharedMap;
+    ///
+    /// # fn main() -> Result<(), Box<dyn std::error::Error>> {
+    /// let map = OrdSharedMap::<i32, char>::with_limit(10_000)?;
+    /// assert_eq!(map.usage(), (2104, 10_000));
+    /// # Ok(())
+    /// # }
+    /// ```
+    pub fn usage(&self) -> (u64, u64) {
+        self.map.usage()
+    }
+
     /// Returns the map of numbers.
     ///
     /// ```
@@ -119,6 +183,13 @@ impl<K: Word, V: Word> OrdSharedMap<K, V> {
     /// ```
     pub fn as_map(&self) -> &SharedMap {
         &self.map
+    }
+}
+
+/// A clone is one more owner of the same map, as a clone of an `Arc` is.
+impl<K, V> Clone for OrdSharedMap<K, V> {
+    fn clone(&self) -> Self {
+        self.map.clone().into()
     }
 }
 
@@ -307,6 +378,30 @@ impl<K: Word, V: Word> OrdGuard<K, V> {
     pub fn insert_absent(&self, key: K, value: V) -> Result<Option<V>, OutOfMemory> {
         let found = self.guard.insert_absent(key.into_u64(), value.into_u64())?;
         Ok(found.map(V::from_u64))
+    }
+
+    /// Returns the key's value. For an absent key the closure is called once, and its value is inserted and returned,
+    /// unless another call inserts the key meanwhile: then that call's value is returned. The closure is called outside
+    /// of the lock. While other calls have the lock, the call yields and tries again. Returns [`OutOfMemory`], with
+    /// nothing changed, if there is no memory or the limit is reached. A present key needs no memory.
+    ///
+    /// ```
+    /// use proved_congee::keyed::OrdSharedMap;
+    ///
+    /// # fn main() -> Result<(), Box<dyn std::error::Error>> {
+    /// let guard = OrdSharedMap::<i32, char>::new()?.pin()?;
+    /// guard.extend([(-5, 'a'), (7, 'b'), (9, 'c')])?;
+    /// assert_eq!(guard.get_or_insert_with(7, || 'x')?, 'b');
+    /// assert_eq!(guard.get_or_insert_with(8, || 'd')?, 'd');
+    /// # Ok(())
+    /// # }
+    /// ```
+    #[doc(alias("entry", "or_insert_with"))]
+    pub fn get_or_insert_with(&self, key: K, f: impl FnOnce() -> V) -> Result<V, OutOfMemory> {
+        let it = self
+            .guard
+            .get_or_insert_with(key.into_u64(), || f().into_u64())?;
+        Ok(V::from_u64(it))
     }
 
     /// Calls the closure with the key's value or `None`. Stores the value that the closure returns, or removes the key for
@@ -684,6 +779,169 @@ impl<K: Word, V: Word> OrdGuard<K, V> {
     #[doc(alias("for_each", "iter_mut"))]
     pub fn iter(&self) -> Range<'_, K, V> {
         self.range(..)
+    }
+
+    /// Returns all keys, ascending, from either end. The keys are read in pages of 4, then 16, and then 64. The pairs
+    /// of a page are of one moment, and other calls come in between two pages. A key that is present throughout is
+    /// returned.
+    ///
+    /// ```
+    /// use proved_congee::keyed::OrdSharedMap;
+    ///
+    /// # fn main() -> Result<(), Box<dyn std::error::Error>> {
+    /// let guard = OrdSharedMap::<i32, char>::new()?.pin()?;
+    /// guard.extend([(-5, 'a'), (7, 'b'), (9, 'c')])?;
+    /// assert!(guard.keys().rev().eq([9, 7, -5]));
+    /// # Ok(())
+    /// # }
+    /// ```
+    pub fn keys(&self) -> impl DoubleEndedIterator<Item = K> + '_ {
+        self.iter().map(|it| it.0)
+    }
+
+    /// Returns all values, by ascending keys, from either end. The values are read in pages of 4, then 16, and then 64.
+    /// The pairs of a page are of one moment, and other calls come in between two pages. The value of a key that is
+    /// present throughout is returned.
+    ///
+    /// ```
+    /// use proved_congee::keyed::OrdSharedMap;
+    ///
+    /// # fn main() -> Result<(), Box<dyn std::error::Error>> {
+    /// let guard = OrdSharedMap::<i32, char>::new()?.pin()?;
+    /// guard.extend([(-5, 'a'), (7, 'b'), (9, 'c')])?;
+    /// assert!(guard.values().eq(['a', 'b', 'c']));
+    /// # Ok(())
+    /// # }
+    /// ```
+    #[doc(alias = "values_mut")]
+    pub fn values(&self) -> impl DoubleEndedIterator<Item = V> + '_ {
+        self.iter().map(|it| it.1)
+    }
+
+    /// Copies the pairs into a map of their own, without a limit. The copy is made by pages, each page of one moment. A
+    /// key that is present throughout the call is in the copy. If other calls change the map, the map may never have
+    /// had just these pairs. Returns [`OutOfMemory`], with nothing changed, if there is no memory for the copy.
+    ///
+    /// ```
+    /// use proved_congee::keyed::OrdSharedMap;
+    ///
+    /// # fn main() -> Result<(), Box<dyn std::error::Error>> {
+    /// let guard = OrdSharedMap::<i32, char>::new()?.pin()?;
+    /// guard.extend([(-5, 'a'), (7, 'b'), (9, 'c')])?;
+    /// let copy = guard.snapshot()?;
+    /// guard.clear();
+    /// assert!(copy.iter().eq([(-5, 'a'), (7, 'b'), (9, 'c')]));
+    /// # Ok(())
+    /// # }
+    /// ```
+    #[doc(alias = "to_owned")]
+    pub fn snapshot(&self) -> Result<OrdMap<K, V>, OutOfMemory> {
+        Ok(self.guard.snapshot()?.into())
+    }
+
+    /// Orders two guards of one map in time: calls that either guard had made, or had learned of, come before all later
+    /// calls of both. Never fails, and takes no lock and no memory. Panics if the guards are of two maps.
+    ///
+    /// ```
+    /// use proved_congee::keyed::OrdSharedMap;
+    ///
+    /// # fn main() -> Result<(), Box<dyn std::error::Error>> {
+    /// let map = OrdSharedMap::<i32, char>::new()?;
+    /// let (one, other) = (map.pin()?, map.pin()?);
+    /// one.insert(-5, 'a')?;
+    /// one.meet(&other);
+    /// assert_eq!(other.get(-5), Some('a'));
+    /// # Ok(())
+    /// # }
+    /// ```
+    pub fn meet(&self, other: &Self) {
+        self.guard.meet(&other.guard);
+    }
+
+    /// Makes a note of the history that the guard has seen, for a guard on another thread to [`learn`](Self::learn).
+    /// Takes a small block. Returns [`OutOfMemory`] if there is no memory for a note.
+    ///
+    /// ```
+    /// use proved_congee::keyed::OrdSharedMap;
+    ///
+    /// # fn main() -> Result<(), Box<dyn std::error::Error>> {
+    /// let map = OrdSharedMap::<i32, char>::new()?;
+    /// let (one, other) = (map.pin()?, map.pin()?);
+    /// one.insert(-5, 'a')?;
+    /// other.learn(&one.note()?);
+    /// assert_eq!(other.get(-5), Some('a'));
+    /// # Ok(())
+    /// # }
+    /// ```
+    pub fn note(&self) -> Result<Note, OutOfMemory> {
+        self.guard.note()
+    }
+
+    /// Orders the guard after a note: all calls that the note has seen come before the guard's later calls. Panics if
+    /// the note is of another map.
+    ///
+    /// ```
+    /// use proved_congee::keyed::OrdSharedMap;
+    ///
+    /// # fn main() -> Result<(), Box<dyn std::error::Error>> {
+    /// let map = OrdSharedMap::<i32, char>::new()?;
+    /// let (one, other) = (map.pin()?, map.pin()?);
+    /// one.insert(-5, 'a')?;
+    /// other.learn(&one.note()?);
+    /// assert_eq!(other.len(), 1);
+    /// # Ok(())
+    /// # }
+    /// ```
+    pub fn learn(&self, note: &Note) {
+        self.guard.learn(note);
+    }
+
+    /// Returns the sum in bytes of the stated sizes of the map's nodes, which counts against the limit. While other
+    /// calls have the lock, the call yields and tries again.
+    ///
+    /// ```
+    /// use proved_congee::keyed::OrdSharedMap;
+    ///
+    /// # fn main() -> Result<(), Box<dyn std::error::Error>> {
+    /// let guard = OrdSharedMap::<i32, char>::with_limit(10_000)?.pin()?;
+    /// assert_eq!(guard.charged(), 2104);
+    /// # Ok(())
+    /// # }
+    /// ```
+    #[doc(alias("bytes", "memory_usage", "stats"))]
+    pub fn charged(&self) -> u64 {
+        self.guard.charged()
+    }
+
+    /// Returns the limit in bytes that the map was made with, or `u64::MAX` for none.
+    ///
+    /// ```
+    /// use proved_congee::keyed::OrdSharedMap;
+    ///
+    /// # fn main() -> Result<(), Box<dyn std::error::Error>> {
+    /// let guard = OrdSharedMap::<i32, char>::with_limit(10_000)?.pin()?;
+    /// assert_eq!(guard.limit(), 10_000);
+    /// # Ok(())
+    /// # }
+    /// ```
+    pub fn limit(&self) -> u64 {
+        self.guard.limit()
+    }
+
+    /// Returns the sum in bytes of the stated sizes of the map's nodes, which counts against the limit, and the limit.
+    /// While other calls have the lock, the call yields and tries again.
+    ///
+    /// ```
+    /// use proved_congee::keyed::OrdSharedMap;
+    ///
+    /// # fn main() -> Result<(), Box<dyn std::error::Error>> {
+    /// let guard = OrdSharedMap::<i32, char>::with_limit(10_000)?.pin()?;
+    /// assert_eq!(guard.usage(), (2104, 10_000));
+    /// # Ok(())
+    /// # }
+    /// ```
+    pub fn usage(&self) -> (u64, u64) {
+        self.guard.usage()
     }
 
     /// Returns the guard of numbers, for calls that the typed guard lacks.
