@@ -379,6 +379,8 @@ public:
     /* The bytes that the nodes take by their stated sizes, and the limit, UINT64_MAX for none. */
     std::uint64_t charged() const { return map_ ? congee_charged(map_) : 0; }
     std::uint64_t limit() const { return map_ ? congee_limit(map_) : UINT64_MAX; }
+    /* The bytes that the nodes take, and the limit, as a pair. */
+    pair usage() const { return {charged(), limit()}; }
 
     /* Returns the map of congee.h, for calls that the class doesn't have. */
     congee *native() {
@@ -420,6 +422,7 @@ struct live_calls {
     static constexpr auto meet = congee_live_meet;
     static constexpr auto charged = congee_live_charged;
     static constexpr auto limit = congee_live_limit;
+    static constexpr auto usage = congee_live_usage;
     static constexpr auto another = congee_live_another;
     static constexpr auto free = congee_live_free;
     static constexpr auto get = congee_live_get;
@@ -453,6 +456,7 @@ struct shared_calls {
     static constexpr auto meet = congee_shared_meet;
     static constexpr auto charged = congee_shared_charged;
     static constexpr auto limit = congee_shared_limit;
+    static constexpr auto usage = congee_shared_usage;
     static constexpr auto another = congee_shared_another;
     static constexpr auto free = congee_shared_free;
     static constexpr auto get = congee_shared_get;
@@ -667,6 +671,12 @@ public:
     /* The bytes that count against the limit, and the limit: UINT64_MAX for none, and in shards the sum of the shards'. */
     std::uint64_t charged() { return C::charged(map_); }
     std::uint64_t limit() { return C::limit(map_); }
+    /* The bytes that count against the limit, and the limit, as a pair: in a shared map at one moment. */
+    pair usage() {
+        pair it = {0, 0};
+        C::usage(map_, &it.first, &it.second);
+        return it;
+    }
     /* Orders two handles of one map in time: both have then seen all that either had seen. */
     void meet(handle &other) { C::meet(map_, other.map_); }
     /* Returns a note of what this handle has seen, and orders this handle after a note of another handle of the map. */

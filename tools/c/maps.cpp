@@ -182,6 +182,7 @@ static void ranges() {
     CHECK(m.erase_range(0, 0) == 1 && m.erase_range(897, UINT64_MAX) == 2 && m.find(894)->second == 298);
     CHECK(m.limit() == UINT64_MAX && m.charged() > 2104 && m.erase_range(0, UINT64_MAX) == 296 && m.empty());
     map tight = map::with_limit(5000), moved = std::move(tight);
+    CHECK(moved.usage() == congee_cpp::pair(2104, 5000));
     CHECK(moved.limit() == 5000 && moved.charged() == 2104 && tight.charged() == 0 && tight.erase_range(0, 9) == 0);
     CHECK(!tight.take(1) && !tight.compute(1, [](auto it) { return it; }) && tight.empty());
     std::uint64_t expected = 7;
@@ -281,6 +282,7 @@ template <class M> static void in_threads(M counts) {
     counts.insert(more.begin(), more.end());
     CHECK(counts.get(2) == 2u && counts.take(12) == 120u);
     CHECK(counts.charged() > 0 && counts.charged() <= counts.limit());
+    CHECK(counts.usage() == congee_cpp::pair(counts.charged(), counts.limit()));
     M third = counts;
     auto noted = counts.note();
     std::thread learner([&third, &noted] {
