@@ -118,6 +118,10 @@ static bool has_answer(const struct call *call, uint64_t *value, bool *is_presen
     case REMOVE:
         *is_present = false;
         break;
+    case COMPUTE:
+        *value = call->left ? call->argument : 0;
+        *is_present = call->left;
+        break;
     case EXCHANGE:
     case COMPARE_REMOVE:
         if (is_expected && call->kind == EXCHANGE)
@@ -156,7 +160,7 @@ static void remove_keys(struct configuration *it, uint64_t keys) {
 /* The keys that a call reads in its step of this number, of those that it passes: all, or those of one leaf. 0 behind its
  * last step. */
 static uint64_t keys_of_step(const struct search *search, const struct call *call, size_t step) {
-    bool is_down = call->kind == FIND_DOWN;
+    bool is_down = call->kind == FIND_DOWN || call->kind == POP_DOWN;
     uint64_t keys = 0, passed = call->passed;
     if (search->is_of_one_moment)
         return step == 0 ? passed : 0;
@@ -165,7 +169,7 @@ static uint64_t keys_of_step(const struct search *search, const struct call *cal
         if (!(passed >> key & 1))
             continue;
         for (size_t other = 0; other < search->keys; other++)
-            if (search->leaf[other] == search->leaf[key])
+            if (other == key || (search->leaf[other] == search->leaf[key] && !call->is_by_key))
                 keys |= passed & (uint64_t)1 << other;
         if (step-- == 0)
             return keys;
@@ -175,14 +179,23 @@ static uint64_t keys_of_step(const struct search *search, const struct call *cal
     return 0;
 }
 
+static bool is_pop(const struct call *call) {
+    return call->kind == POP || call->kind == POP_DOWN;
+}
+
+/* Whether a pop finds its pair in some steps, and removes the pair in one more. */
+static bool is_pop_by_steps(const struct search *search, const struct call *call) {
+    return is_pop(call) && !search->is_of_one_moment;
+}
+
 /* How many steps a call has. */
 static size_t steps_of(const struct search *search, const struct call *call) {
     size_t steps = 0;
-    if (call->kind != FIND && call->kind != FIND_DOWN && call->kind != COUNT)
+    if (call->kind != FIND && call->kind != FIND_DOWN && call->kind != COUNT && !is_pop_by_steps(search, call))
         return 1;
     while (keys_of_step(search, call, steps))
         steps++;
-    return steps;
+    return steps + (is_pop_by_steps(search, call) && call->code == 1);
 }
 
 /* Makes the next step of a thread's open call. Returns whether it may be made there. */
@@ -198,7 +211,11 @@ static bool advance(const struct search *search, size_t thread, struct configura
     case IS_FILLED:
         return it->present != 0;
     case POP:
-        may = has_found(call, call->passed, it);
+    case POP_DOWN:
+        keys = keys_of_step(search, call, step);
+        if (is_pop_by_steps(search, call) && keys)
+            return has_found(call, keys, it);
+        may = has_found(call, keys ? keys : call->found, it);
         remove_keys(it, call->found);
         return may;
     case CLEAR:
@@ -227,7 +244,10 @@ static bool is_reading(const struct call *call) {
         return true;
     case REMOVE:
     case POP:
+    case POP_DOWN:
         return call->code == 0;
+    case COMPUTE:
+        return call->code == call->left && (!call->left || call->argument == call->answer);
     case EXCHANGE:
     case COMPARE_REMOVE:
         return call->code != 1;
@@ -236,6 +256,11 @@ static bool is_reading(const struct call *call) {
     default:
         return false;
     }
+}
+
+/* How many of a call's steps change nothing: those up to so many. */
+static size_t reading_steps(const struct search *search, const struct call *call, size_t steps) {
+    return is_reading(call) ? steps : is_pop_by_steps(search, call) ? steps - 1 : 0;
 }
 
 /* Notes what a thread's count may have come to. It is made where that may be its answer. */
@@ -257,12 +282,13 @@ static void read_on(const struct search *search, const size_t *steps, struct con
     for (size_t i = 0; i < search->threads; i++) {
         const struct call *call = &search->calls[i][search->at[i]];
         struct configuration next = *it;
-        if (it->made[i] == steps[i] || !is_reading(call))
+        if (it->made[i] == steps[i])
             continue;
+        size_t reads = reading_steps(search, call, steps[i]);
         if (call->kind == COUNT)
             count_on(search, i, steps[i], it);
         else
-            while (it->made[i] < steps[i] && advance(search, i, &next))
+            while (it->made[i] < reads && advance(search, i, &next))
                 *it = next;
     }
 }
@@ -287,7 +313,8 @@ static bool ends(struct search *search, size_t thread) {
         search->work++;
         for (size_t other = 0; other < search->threads; other++) {
             struct configuration next = it;
-            if (it.made[other] == steps[other] || is_reading(&search->calls[other][search->at[other]]) ||
+            if (it.made[other] == steps[other] ||
+                it.made[other] < reading_steps(search, &search->calls[other][search->at[other]], steps[other]) ||
                 !advance(search, other, &next))
                 continue;
             read_on(search, steps, &next);
@@ -336,9 +363,9 @@ static enum verdict run(struct search *search, const struct configuration *first
     return is_made ? EXPLAINED : search->fits ? UNEXPLAINED : UNDECIDED;
 }
 
-static const char *const names[] = {"get",           "insert",  "remove", "compare_exchange", "compare_remove", "add",
-                                    "get_or_insert", "refused", "find",   "find downwards",   "count",          "is filled",
-                                    "pop",           "clear"};
+static const char *const names[] = {"get",           "insert",  "remove",    "compare_exchange", "compare_remove", "add",
+                                    "get_or_insert", "compute", "refused",   "find",             "find downwards", "count",
+                                    "is filled",     "pop",     "pop last", "clear"};
 
 static void print_call(const struct call *call, size_t thread, FILE *out) {
     fprintf(out, "  %" PRIu64 " to %" PRIu64 ", thread %zu: %s", call->start, call->end, thread, names[call->kind]);
@@ -346,7 +373,9 @@ static void print_call(const struct call *call, size_t thread, FILE *out) {
         fprintf(out, " key %" PRIu64, call->key);
         if (call->kind == EXCHANGE || call->kind == COMPARE_REMOVE)
             fprintf(out, " expected %" PRIu64, call->expected);
-        if (call->kind != GET && call->kind != REMOVE && call->kind != COMPARE_REMOVE)
+        if (call->kind == COMPUTE && !call->left)
+            fprintf(out, " with none");
+        else if (call->kind != GET && call->kind != REMOVE && call->kind != COMPARE_REMOVE)
             fprintf(out, " with %" PRIu64, call->argument);
     }
     fprintf(out, " -> %d", call->code);
@@ -432,9 +461,9 @@ static bool is_of_key(const struct call *call, uint64_t key, struct call *alone)
         return call->key == key;
     if (!(call->passed >> key & 1))
         return false;
-    alone->kind = GET;
     alone->code = call->found >> key & 1;
     alone->answer = alone->code ? call->values[__builtin_popcountll(call->found & (((uint64_t)1 << key) - 1))] : 0;
+    alone->kind = is_pop(call) && alone->code ? REMOVE : GET;
     return true;
 }
 

@@ -7,10 +7,12 @@
  * A history is explained if each call has a moment between its start and its end (its linearization point), such that the
  * calls in the order of these moments have the answers of a map with one owner. There are two searches:
  *
- *   - explain, for few keys: the map as a whole. A range, an end or a count has one moment, or where the map's aren't of one
- *     moment, one for all keys that share a leaf, in the order in which it reads
- *   - explain_by_key, for many keys: each key by itself. A range is a look-up of each key that it passed. Counts, pops and
- *     clears aren't searched. Objects are linearizable together where each one is (Herlihy and Wing, Linearizability, 1990)
+ *   - explain, for few keys: the map as a whole. A range, an end, a pop or a count has one moment. Where the map's aren't of
+ *     one moment, it has one for all keys that share a leaf, in the order in which it reads, and a pop one more, at which it
+ *     removes the pair that it found
+ *   - explain_by_key, for many keys: each key by itself. A range is a look-up of each key that it passed, and a pop is that
+ *     and a removal of its pair. Counts and clears aren't searched. Objects are linearizable together where each one is
+ *     (Herlihy and Wing, Linearizability, 1990)
  *
  * The search goes through starts and ends by their numbers. It keeps each pair of a content and the calls that are made by
  * then (Wing and Gong, Testing and Verifying Concurrent Objects, 1993). A call is put in order only when a call's end
@@ -26,8 +28,9 @@
 
 enum { MOST_KEYS = 64, MOST_WHOLE = 8, MOST_THREADS = 8 };
 
-/* REFUSED is a call that found no memory to insert its key, so the key was absent at a moment. FIND and FIND_DOWN are ranges
- * and ends, IS_FILLED is a test for none that found a pair. */
+/* COMPUTE is a change by a function: what it found, and what the function left, at one moment. REFUSED is a call that found no
+ * memory to insert its key, so the key was absent at a moment. FIND and FIND_DOWN are ranges and ends, IS_FILLED is a test for
+ * none that found a pair. */
 enum kind {
     GET,
     INSERT,
@@ -36,12 +39,14 @@ enum kind {
     COMPARE_REMOVE,
     ADD,
     GET_OR_INSERT,
+    COMPUTE,
     REFUSED,
     FIND,
     FIND_DOWN,
     COUNT,
     IS_FILLED,
     POP,
+    POP_DOWN,
     CLEAR
 };
 
@@ -51,7 +56,9 @@ struct call {
     enum kind kind;
     int code;
     uint64_t key, argument, expected, answer;
-    uint64_t passed, found; /* of FIND, FIND_DOWN and POP: which keys it passed, and which of them it found */
+    int left;               /* of COMPUTE: whether the key is there afterwards, with the argument as its value */
+    bool is_by_key;         /* of FIND_DOWN: keys that share a leaf have a moment each where ranges aren't of one moment */
+    uint64_t passed, found; /* of FIND, FIND_DOWN and pops: which keys it passed, and which of them it found */
     const uint64_t *values; /* what was found at these, in ascending order of keys */
 };
 

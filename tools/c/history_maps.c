@@ -1,6 +1,5 @@
 /* The tables of maps and keys, and the calls of history_maps.h. */
 #include "history_maps.h"
-#include "pauses.h"
 #include "stand_in.h"
 #include <stdio.h>
 #include <string.h>
@@ -24,6 +23,7 @@
     CALL(map, compare_remove, (void *it, uint64_t key, uint64_t old, uint64_t *found), it, key, old, found)                 \
     CALL(map, add, (void *it, uint64_t key, uint64_t number, uint64_t *old), it, key, number, old)                          \
     CALL(map, get_or_insert, (void *it, uint64_t key, uint64_t value, uint64_t *found), it, key, value, found)              \
+    CALL(map, compute, (void *it, uint64_t key, congee_updater *f, void *with, uint64_t *old), it, key, f, with, old)       \
     CALL(map, range, (void *it, uint64_t from, uint64_t to, struct congee_pair *all, size_t n, size_t *written), it, from,  \
          to, all, n, written)                                                                                               \
     CALL(map, range_inclusive, (void *it, uint64_t from, uint64_t to, struct congee_pair *all, size_t n, size_t *written),  \
@@ -34,19 +34,24 @@
     CALL(map, ceiling, (void *it, uint64_t key, struct congee_pair *pair), it, key, pair)                                   \
     CALL(map, below, (void *it, uint64_t key, struct congee_pair *pair), it, key, pair)                                     \
     CALL(map, above, (void *it, uint64_t key, struct congee_pair *pair), it, key, pair)                                     \
-    CALL(map, is_empty, (void *it), it)                                                                                     \
-    CALL(map, count, (void *it, uint64_t *count), it, count)
-#define CALLS_OF_ONE_MOMENT(map)                                                                                            \
     CALL(map, range_descending, (void *it, uint64_t from, uint64_t to, struct congee_pair *all, size_t n, size_t *written), \
          it, from, to, all, n, written)                                                                                     \
     CALL(map, pop_first, (void *it, struct congee_pair *pair), it, pair)                                                    \
     CALL(map, pop_last, (void *it, struct congee_pair *pair), it, pair)                                                     \
-    CALL(map, clear, (void *it), it)
+    CALL(map, is_empty, (void *it), it)                                                                                     \
+    CALL(map, count, (void *it, uint64_t *count), it, count)
 CALLS_OF_ALL(live)
 CALLS_OF_ALL(shared)
-CALLS_OF_ONE_MOMENT(shared)
+CALL(shared, clear, (void *it), it)
 CALLS_OF_ALL(alone)
-CALLS_OF_ONE_MOMENT(alone)
+CALL(alone, clear, (void *it), it)
+
+#define waits_live_is(name) congee_live_##name
+#define waits_shared_is(name) congee_shared_##name
+CALL(waits_live, compute, (void *it, uint64_t key, congee_updater *f, void *with, uint64_t *old), it, key, f, with, old)
+CALL(waits_live, pop_first, (void *it, struct congee_pair *pair), it, pair)
+CALL(waits_live, pop_last, (void *it, struct congee_pair *pair), it, pair)
+CALL(waits_shared, compute, (void *it, uint64_t key, congee_updater *f, void *with, uint64_t *old), it, key, f, with, old)
 
 /* Functions that make, share and free a map of this type. */
 #define ENDS(map, type, made, shared, freed)                                                                                \
@@ -83,16 +88,27 @@ static int sharded_new(uint64_t limit, void **out) {
 #define ENTRIES_OF_ALL(map)                                                                                                 \
     .another = map##_another, .free = map##_free, .get = map##_get, .insert = map##_insert, .remove = map##_remove,         \
     .compare_exchange = map##_compare_exchange, .compare_remove = map##_compare_remove, .add = map##_add,                   \
-    .get_or_insert = map##_get_or_insert, .range = map##_range, .range_inclusive = map##_range_inclusive,                   \
-    .first = map##_first, .last = map##_last, .floor = map##_floor, .ceiling = map##_ceiling, .below = map##_below,         \
-    .above = map##_above, .is_empty = map##_is_empty, .count = map##_count
-#define ENTRIES_OF_ONE_MOMENT(map)                                                                                          \
-    ENTRIES_OF_ALL(map), .is_of_one_moment = true, .range_descending = map##_range_descending,                              \
-                         .pop_first = map##_pop_first, .pop_last = map##_pop_last, .clear = map##_clear
-const struct map_kind live_map = {"live", .make = live_new, ENTRIES_OF_ALL(live)};
-const struct map_kind locked_map = {"locked", .make = shared_new, ENTRIES_OF_ONE_MOMENT(shared)};
-const struct map_kind sharded_map = {"sharded", .make = sharded_new, ENTRIES_OF_ONE_MOMENT(shared)};
-const struct map_kind stand_in_map = {"stand-in", .make = alone_new, ENTRIES_OF_ONE_MOMENT(alone)};
+    .get_or_insert = map##_get_or_insert, .compute = map##_compute, .range = map##_range,                                   \
+    .range_inclusive = map##_range_inclusive, .range_descending = map##_range_descending, .first = map##_first,             \
+    .last = map##_last, .floor = map##_floor, .ceiling = map##_ceiling, .below = map##_below, .above = map##_above,         \
+    .pop_first = map##_pop_first, .pop_last = map##_pop_last, .is_empty = map##_is_empty, .count = map##_count
+#define SHARED_ENTRIES ENTRIES_OF_ALL(shared), .is_of_one_moment = true, .waits_compute = waits_shared_compute, .clear = shared_clear
+const struct map_kind live_map = {"live",
+                                  .make = live_new,
+                                  ENTRIES_OF_ALL(live),
+                                  .waits_compute = waits_live_compute,
+                                  .waits_pop_first = waits_live_pop_first,
+                                  .waits_pop_last = waits_live_pop_last};
+const struct map_kind locked_map = {"locked", .make = shared_new, SHARED_ENTRIES};
+const struct map_kind sharded_map = {"sharded", .make = sharded_new, SHARED_ENTRIES};
+const struct map_kind stand_in_map = {
+    "stand-in", .make = alone_new, ENTRIES_OF_ALL(alone), .is_of_one_moment = true, .clear = alone_clear};
+const struct map_kind stand_in_by_leaf = {"stand-in read by leaf", .make = alone_new, ENTRIES_OF_ALL(alone)};
+
+bool is_fault_by_leaf(int fault) {
+    return fault == POPPED_TWICE || fault == POPPED_BEHIND || fault == CHANGE_IN_TWO || fault == TORN_LEAF ||
+           fault == SKIPPED_PAIR || fault == NEIGHBOUR_TOO_FAR;
+}
 
 /* -- Keys -- */
 
@@ -219,8 +235,48 @@ static bool is_again(struct caller *caller, int code, bool waits) {
     return true;
 }
 
+/* A change by a function: what the function was called with last, how often, and what it left. */
+struct change {
+    struct caller *caller;
+    uint64_t before, argument;
+    int found, left, calls;
+};
+
+/* Removes the key, keeps it as it is, or gives it a value that no other call stores. */
+static int changes(int found, uint64_t *value, void *with) {
+    struct change *change = with;
+    uint64_t way = next_random(&change->caller->random) % 4;
+    change->calls++;
+    change->found = found;
+    change->before = *value;
+    if (found == CONGEE_ABSENT && *value != 0)
+        change->caller->wrong = "a function that is called with the value of an absent key";
+    if (way > 1)
+        *value = fresh(change->caller);
+    change->argument = *value;
+    return change->left = way == 0 ? CONGEE_ABSENT : way == 1 ? found : CONGEE_PRESENT;
+}
+
+/* A change by a function, by the form that waits or by the other. The entry is what the function got and what it left. */
+static int make_change(struct caller *caller, struct call *call, bool waits) {
+    const struct map_kind *kind = caller->kind;
+    uint64_t key = caller->set->keys[call->key];
+    struct change change = {.caller = caller};
+    waits = waits && kind->waits_compute;
+    int code = (waits ? kind->waits_compute : kind->compute)(caller->map, key, changes, &change, &call->answer);
+    call->argument = change.argument;
+    call->left = change.left;
+    if (code == CONGEE_BUSY ? waits || change.calls > 1 : change.calls == 0 || (!waits && change.calls > 1))
+        caller->wrong = "a change that calls its function too often, or never";
+    if (code == CONGEE_OOM && (change.found == CONGEE_PRESENT || change.left == CONGEE_ABSENT))
+        caller->wrong = "a change that needs no memory is refused for it";
+    if (code >= 0 && (code != change.found || (code == CONGEE_PRESENT && call->answer != change.before)))
+        caller->wrong = "a change that returns another value than its function got";
+    return code;
+}
+
 /* The call itself of one key. */
-static int make_call(const struct caller *caller, struct call *call) {
+static int make_call(struct caller *caller, struct call *call, bool waits) {
     const struct map_kind *kind = caller->kind;
     uint64_t key = caller->set->keys[call->key];
     switch (call->kind) {
@@ -236,6 +292,8 @@ static int make_call(const struct caller *caller, struct call *call) {
         return kind->compare_remove(caller->map, key, call->expected, &call->answer);
     case ADD:
         return kind->add(caller->map, key, call->argument, &call->answer);
+    case COMPUTE:
+        return make_change(caller, call, waits);
     default:
         return kind->get_or_insert(caller->map, key, call->argument, &call->answer);
     }
@@ -246,7 +304,7 @@ static void call_key(struct caller *caller, enum kind kind, uint64_t key, bool w
     struct call call = {.kind = kind, .key = key, .argument = fresh(caller), .expected = caller->seen[key]};
     uint64_t expected = call.expected;
     call.start = clock_now();
-    while (call.answer = 0, call.code = make_call(caller, &call), is_again(caller, call.code, waits)) {
+    while (call.answer = 0, call.code = make_call(caller, &call, waits), is_again(caller, call.code, waits)) {
     }
     call.end = clock_now();
     if (call.code == CONGEE_BUSY)
@@ -254,16 +312,17 @@ static void call_key(struct caller *caller, enum kind kind, uint64_t key, bool w
     if (call.code == CONGEE_OOM) {
         call.kind = REFUSED;
         caller->refused++;
-        if (kind != INSERT && kind != ADD && kind != GET_OR_INSERT)
+        if (kind != INSERT && kind != ADD && kind != GET_OR_INSERT && kind != COMPUTE)
             caller->wrong = "a call that needs no memory is refused for it";
     } else if (call.code < 0 || call.code > (kind == EXCHANGE || kind == COMPARE_REMOVE ? 2 : 1)) {
         caller->wrong = "an answer that isn't one";
     } else if (call.code == 2 && call.answer == expected) {
         caller->wrong = "a comparison that fails with the expected value";
     }
-    caller->seen[key] = kind == INSERT || (kind == EXCHANGE && call.code == 1) ? call.argument
-                        : call.code > 0 && call.answer                         ? call.answer
-                                                                               : caller->seen[key];
+    if (kind == INSERT || (kind == EXCHANGE && call.code == 1) || (kind == COMPUTE && call.left))
+        caller->seen[key] = call.argument;
+    else if (call.code > 0 && call.answer)
+        caller->seen[key] = call.answer;
     write_down(caller, call);
 }
 
@@ -359,8 +418,7 @@ static void call_range(struct caller *caller, uint64_t which, bool waits) {
     struct congee_pair pairs[MOST_KEYS + MOST_STAYING];
     uint64_t start = near_key(caller), last = near_key(caller), random = next_random(&caller->random);
     size_t n = 1 + random % (caller->set->count + caller->set->stays), written = 0;
-    which -= which == 2 && !caller->kind->range_descending;
-    struct call call = {.kind = which == 2 ? FIND_DOWN : FIND};
+    struct call call = {.kind = which == 2 ? FIND_DOWN : FIND, .is_by_key = which == 2};
     if (random >> 40 & 1) {
         start = 0;
         last = UINT64_MAX;
@@ -444,16 +502,22 @@ static void call_is_empty(struct caller *caller, bool waits) {
         caller->wrong = "a map with keys that stay is empty";
 }
 
+/* The pop itself: of all, of the first pair, or of the last one, by the form that waits where that is a loop of its own. */
+static int make_pop(const struct caller *caller, uint64_t which, bool waits, struct congee_pair *pair) {
+    const struct map_kind *kind = caller->kind;
+    if (which == 0)
+        return kind->clear(caller->map);
+    if (which == 1)
+        return (waits && kind->waits_pop_first ? kind->waits_pop_first : kind->pop_first)(caller->map, pair);
+    return (waits && kind->waits_pop_last ? kind->waits_pop_last : kind->pop_last)(caller->map, pair);
+}
+
 /* A pop of the first or last pair, or of all. Only where no key stays. */
 static void call_pop(struct caller *caller, uint64_t which, bool waits) {
-    const struct map_kind *kind = caller->kind;
     struct congee_pair pair = {0, 0};
-    struct call call = {.kind = which == 0 ? CLEAR : POP};
+    struct call call = {.kind = which == 0 ? CLEAR : which == 1 ? POP : POP_DOWN};
     call.start = clock_now();
-    while (call.code = which == 0   ? kind->clear(caller->map)
-                       : which == 1 ? kind->pop_first(caller->map, &pair)
-                                    : kind->pop_last(caller->map, &pair),
-           is_again(caller, call.code, waits)) {
+    while (call.code = make_pop(caller, which, waits, &pair), is_again(caller, call.code, waits)) {
     }
     call.end = clock_now();
     if (call.code == CONGEE_BUSY)
@@ -475,17 +539,18 @@ void call_at_random(struct caller *caller) {
     uint64_t which = (caller->first_call + random % kinds) % 64;
     bool waits = random >> 32 & 1;
     if (which < 48)
-        call_key(caller, which / 4 % 7, some_key(caller), waits);
+        call_key(caller, which / 4 % 8, some_key(caller), waits);
     else if (which < 54)
         call_range(caller, which % 3, waits);
-    else if (which < 60 || !is_small(caller->set))
+    else if (which < 60 || (which < 62 && !is_small(caller->set)))
         call_end(caller, which % 6, waits);
     else if (which == 60)
         call_is_empty(caller, waits);
     else if (which == 61)
         call_count(caller, waits);
-    else if (caller->kind->clear && caller->set->stays == 0)
-        call_pop(caller, (random >> 8) % 3, waits);
+    else if (caller->set->stays == 0)
+        /* (a clear isn't searched key by key) */
+        call_pop(caller, caller->kind->clear && is_small(caller->set) ? (random >> 8) % 3 : 1 + (random >> 8) % 2, waits);
     else
         call_key(caller, GET, some_key(caller), waits);
 }

@@ -2,13 +2,16 @@
 #ifndef HISTORY_MAPS_H
 #define HISTORY_MAPS_H
 
+/* (calls that wait let others go on as the program does) */
+#include "pauses.h"
+#define CONGEE_YIELD() pause_here()
 #include "congee.h"
 #include "histories.h"
 
 /* The calls that the maps share, each in the form that may be busy. Where a map lacks one it is null. */
 struct map_kind {
     const char *name;
-    bool is_of_one_moment; /* each range, end and count is */
+    bool is_of_one_moment; /* each range, end, pop and count is */
     int (*make)(uint64_t limit, void **out);
     int (*another)(void *map, void **out);
     void (*free)(void *map);
@@ -19,6 +22,7 @@ struct map_kind {
     int (*compare_remove)(void *map, uint64_t key, uint64_t expected, uint64_t *found);
     int (*add)(void *map, uint64_t key, uint64_t number, uint64_t *old);
     int (*get_or_insert)(void *map, uint64_t key, uint64_t value, uint64_t *found);
+    int (*compute)(void *map, uint64_t key, congee_updater *f, void *with, uint64_t *old);
     int (*range)(void *map, uint64_t start, uint64_t end, struct congee_pair *buffer, size_t n, size_t *written);
     int (*range_inclusive)(void *map, uint64_t start, uint64_t last, struct congee_pair *buffer, size_t n, size_t *written);
     int (*range_descending)(void *map, uint64_t start, uint64_t last, struct congee_pair *buffer, size_t n, size_t *written);
@@ -30,12 +34,22 @@ struct map_kind {
     int (*above)(void *map, uint64_t key, struct congee_pair *pair);
     int (*pop_first)(void *map, struct congee_pair *pair);
     int (*pop_last)(void *map, struct congee_pair *pair);
+    /* forms that wait, where these are loops of their own */
+    int (*waits_compute)(void *map, uint64_t key, congee_updater *f, void *with, uint64_t *old);
+    int (*waits_pop_first)(void *map, struct congee_pair *pair);
+    int (*waits_pop_last)(void *map, struct congee_pair *pair);
     int (*clear)(void *map);
     int (*is_empty)(void *map);
     int (*count)(void *map, uint64_t *count);
 };
 
 extern const struct map_kind live_map, locked_map, sharded_map, stand_in_map;
+
+/* The stand-in, searched as a live map is: its ends and pops needn't be of one moment. */
+extern const struct map_kind stand_in_by_leaf;
+
+/* Whether the stand-in is to be searched so with this fault. */
+bool is_fault_by_leaf(int fault);
 
 /* Keys that come and go, and keys beside them that stay, with values of their own. Both ascend. */
 enum { MOST_STAYING = 256, KEY_SETS = 26 };

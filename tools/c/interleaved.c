@@ -58,9 +58,9 @@ static struct choice draw_choice(size_t fibers, uint64_t *random) {
 
 /* Draws what a caller calls: all kinds of calls, or a few. One that is stopped within calls makes few. */
 static void draw_calls(struct caller *caller, uint64_t *random) {
-    static const uint64_t kinds[] = {0, 4, 8, 12, 16, 20, 24, 48, 50, 52, 54, 56, 58, 61};
+    static const uint64_t kinds[] = {0, 4, 8, 12, 16, 20, 24, 28, 48, 50, 52, 54, 56, 58, 61, 62};
     bool is_stopped = is_first_stopped && caller->id == 0;
-    caller->first_call = is_stopped ? kinds[next_random(random) % 14] : next_random(random) % 32;
+    caller->first_call = is_stopped ? kinds[next_random(random) % 16] : next_random(random) % 64;
     caller->kinds = is_stopped ? 2 : next_random(random) % 3 ? 8 : 64;
     calls[caller->id] = 1 + next_random(random) % (is_stopped ? 3 : is_first_stopped ? MOST_CALLS : MOST_CALLS / 3);
 }
@@ -188,6 +188,7 @@ static bool are_faults_found(void) {
     for (int fault = NO_FAULT + 1; fault < FAULTS; fault++) {
         stand_in_fault = fault;
         are = is_found(&stand_in_map, 20000, stand_in_faults[fault]) && are;
+        are = (!is_fault_by_leaf(fault) || is_found(&stand_in_by_leaf, 20000, stand_in_faults[fault])) && are;
     }
     return are;
 }

@@ -98,19 +98,19 @@ static uint64_t right_rounds(const struct map_kind *kind, size_t number, uint64_
     return right;
 }
 
-/* Whether the fault is found. The calls that show it aren't printed. */
-static bool is_found(void) {
+/* Whether the fault is found, by what is searched of this kind. The calls that show it aren't printed. */
+static bool is_found(const struct map_kind *kind) {
     FILE *out = fopen("/dev/null", "w");
     if (!out)
         abort();
     for (uint64_t round = 0; round < 400; round++)
-        if (right_rounds(&stand_in_map, round % KEY_SETS, 1, out) == 0) {
-            printf("%s: found in round %" PRIu64 "\n", stand_in_faults[stand_in_fault], round + 1);
+        if (right_rounds(kind, round % KEY_SETS, 1, out) == 0) {
+            printf("%s, %s: found in round %" PRIu64 "\n", kind->name, stand_in_faults[stand_in_fault], round + 1);
             fclose(out);
             return true;
         }
     fclose(out);
-    fprintf(stderr, "recorded: not found: %s\n", stand_in_faults[stand_in_fault]);
+    fprintf(stderr, "recorded: not found: %s, %s\n", kind->name, stand_in_faults[stand_in_fault]);
     return false;
 }
 
@@ -118,7 +118,8 @@ static bool are_faults_found(void) {
     bool are = true;
     for (int fault = NO_FAULT + 1; fault < FAULTS; fault++) {
         stand_in_fault = fault;
-        are = is_found() && are;
+        are = is_found(&stand_in_map) && are;
+        are = (!is_fault_by_leaf(fault) || is_found(&stand_in_by_leaf)) && are;
     }
     stand_in_fault = NO_FAULT;
     return are;
@@ -140,7 +141,7 @@ static bool is_all_right(const struct map_kind *kind) {
     return true;
 }
 
-static const struct map_kind *const kinds[] = {&live_map, &locked_map, &sharded_map, &stand_in_map};
+static const struct map_kind *const kinds[] = {&live_map, &locked_map, &sharded_map, &stand_in_map, &stand_in_by_leaf};
 enum { KINDS = sizeof kinds / sizeof kinds[0] };
 
 static bool is_meant(const struct map_kind *kind, const char *word) {

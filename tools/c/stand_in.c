@@ -19,6 +19,8 @@ const char *const stand_in_faults[FAULTS] = {"no fault",
                                              "a next pair behind the next",
                                              "a count of before",
                                              "a pair that is popped twice",
+                                             "a pop of the pair behind the end",
+                                             "a change by a function in two holds",
                                              "a pair that a clear leaves",
                                              "a busy call that was made",
                                              "a present key that is refused for memory"};
@@ -223,6 +225,25 @@ int stand_in_try_get_or_insert(struct stand_in *map, uint64_t key, uint64_t valu
     return code;
 }
 
+/* The function is called within the hold, or with the fault between two. */
+int stand_in_try_compute(struct stand_in *map, uint64_t key, congee_updater *f, void *with, uint64_t *old) {
+    uint64_t before = 0, value;
+    hold(map);
+    int code = look(map, key, &before);
+    value = before;
+    int wanted = f(code, &value, with);
+    if (has(CHANGE_IN_TWO))
+        let_in(map);
+    if (wanted == CONGEE_PRESENT)
+        put(&map->shared->pairs, key, value);
+    else
+        take(&map->shared->pairs, key);
+    give_back(map);
+    if (code == CONGEE_PRESENT)
+        *old = before;
+    return code;
+}
+
 int stand_in_try_range_inclusive(const struct stand_in *map, uint64_t start, uint64_t last, struct congee_pair *buffer,
                                  size_t n, size_t *written) {
     bool is_torn = has(TORN_LEAF), skips = has(SKIPPED_PAIR);
@@ -301,7 +322,8 @@ static int pop(struct stand_in *map, bool is_first, struct congee_pair *pair) {
     struct pairs *pairs = &map->shared->pairs;
     bool is_there = pairs->count > 0;
     if (is_there) {
-        *pair = pairs->all[is_first ? 0 : pairs->count - 1];
+        size_t behind = pairs->count > 1 && has(POPPED_BEHIND);
+        *pair = pairs->all[is_first ? behind : pairs->count - 1 - behind];
         if (has(POPPED_TWICE))
             let_in(map);
         take(pairs, pair->key);

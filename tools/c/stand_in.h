@@ -19,6 +19,8 @@ enum fault {
     NEIGHBOUR_TOO_FAR,   /* the next pair is that behind it */
     COUNT_OF_BEFORE,     /* a count is that before the handle's last change */
     POPPED_TWICE,        /* a pop looks in one hold, and removes in another */
+    POPPED_BEHIND,       /* a pop removes the pair behind the end */
+    CHANGE_IN_TWO,       /* a change by a function looks in one hold, and stores in another */
     KEPT_AFTER_CLEAR,    /* a clear leaves the last pair */
     BUSY_BUT_MADE,       /* a call says that it was busy, and was made */
     REFUSED_BUT_PRESENT, /* an insertion at a present key is refused for memory */
@@ -43,6 +45,7 @@ int stand_in_try_compare_exchange(struct stand_in *map, uint64_t key, uint64_t e
 int stand_in_try_compare_remove(struct stand_in *map, uint64_t key, uint64_t expected, uint64_t *found);
 int stand_in_try_add(struct stand_in *map, uint64_t key, uint64_t number, uint64_t *old);
 int stand_in_try_get_or_insert(struct stand_in *map, uint64_t key, uint64_t value, uint64_t *found);
+int stand_in_try_compute(struct stand_in *map, uint64_t key, congee_updater *f, void *with, uint64_t *old);
 int stand_in_try_range(const struct stand_in *map, uint64_t start, uint64_t end, struct congee_pair *buffer, size_t n,
                        size_t *written);
 int stand_in_try_range_inclusive(const struct stand_in *map, uint64_t start, uint64_t last, struct congee_pair *buffer,
