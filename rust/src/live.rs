@@ -649,6 +649,31 @@ impl LiveGuard {
         loops::compute(self, key, f)
     }
 
+    /// Calls the closure with the key's value or `None`. Stores the value that the closure returns, or removes the key
+    /// for `None`. Returns the previous value. The closure is called while nothing is locked, so it may take long, or
+    /// call the map. Doesn't wait: returns [`TryError::Busy`], with no pair changed, if writers locked or changed the
+    /// key's nodes at each of a bounded number of tries. Returns [`TryError::Busy`] also if another call changed the
+    /// key after the look-up. So the closure is called once, or not at all. Returns [`TryError::OutOfMemory`], with no
+    /// pair changed, only for an absent key, if there is no memory or the limit is reached.
+    ///
+    /// ```
+    /// # fn main() -> Result<(), Box<dyn std::error::Error>> {
+    /// let guard = proved_congee::LiveMap::new()?.pin()?;
+    /// guard.insert(7, 70)?;
+    /// assert_eq!(guard.try_compute(7, |value| Some(value? / 2))?, Some(70));
+    /// assert_eq!(guard.try_compute(7, |_| None)?, Some(35));
+    /// assert_eq!(guard.get(7), None);
+    /// # Ok(())
+    /// # }
+    /// ```
+    pub fn try_compute(
+        &self,
+        key: u64,
+        f: impl FnOnce(Option<u64>) -> Option<u64>,
+    ) -> Result<Option<u64>, TryError> {
+        loops::try_compute(self, key, f)
+    }
+
     /// Removes the key, and returns the removed value, or `None` if the key was absent. A removal is never out of memory.
     /// While writers lock or change the key's nodes, the call yields and tries again.
     ///

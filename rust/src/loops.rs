@@ -1,12 +1,14 @@
 //! Calls of guards, made of several calls of the map. Calls of other threads come in between.
+//!
+//! Calls of a [`Caller`] without `try_` wait while busy, and those with `try_` don't.
 
 use crate::map::ExtendError;
 use crate::pages::{Range, Source};
-use crate::shared::Guard;
+use crate::shared::{Busy, Guard, TryError};
 use crate::{LiveGuard, Map, OutOfMemory};
 use std::ops::RangeBounds;
 
-/// A guard's calls, for the loops below. Each call waits while busy.
+/// A guard's calls, for the loops below.
 pub(crate) trait Caller {
     fn source(&self) -> Source<'_>;
     fn get(&self, key: u64) -> Option<u64>;
@@ -15,6 +17,9 @@ pub(crate) trait Caller {
     fn remove(&self, key: u64) -> Option<u64>;
     fn compare_exchange(&self, key: u64, expected: u64, desired: u64) -> Result<(), Option<u64>>;
     fn compare_remove(&self, key: u64, expected: u64) -> Result<(), Option<u64>>;
+    fn try_get(&self, key: u64) -> Result<Option<u64>, Busy>;
+    fn try_insert_absent(&self, key: u64, value: u64) -> Result<Option<u64>, TryError>;
+    fn try_exchange(&self, key: u64, expected: u64, to: Option<u64>) -> Result<bool, Busy>;
 }
 
 macro_rules! callers {
@@ -51,6 +56,22 @@ macro_rules! callers {
 
             fn compare_remove(&self, key: u64, expected: u64) -> Result<(), Option<u64>> {
                 $guard::compare_remove(self, key, expected)
+            }
+
+            fn try_get(&self, key: u64) -> Result<Option<u64>, Busy> {
+                $guard::try_get(self, key)
+            }
+
+            fn try_insert_absent(&self, key: u64, value: u64) -> Result<Option<u64>, TryError> {
+                $guard::try_insert_absent(self, key, value)
+            }
+
+            fn try_exchange(&self, key: u64, expected: u64, to: Option<u64>) -> Result<bool, Busy> {
+                let made = match to {
+                    Some(value) => $guard::try_compare_exchange(self, key, expected, value)?,
+                    None => $guard::try_compare_remove(self, key, expected)?,
+                };
+                Ok(made.is_ok())
             }
         }
     )*};
@@ -106,6 +127,24 @@ pub(crate) fn compute(
             Ok(()) => return Ok(before),
             Err(current) => before = current,
         }
+    }
+}
+
+pub(crate) fn try_compute(
+    caller: &impl Caller,
+    key: u64,
+    f: impl FnOnce(Option<u64>) -> Option<u64>,
+) -> Result<Option<u64>, TryError> {
+    let before = caller.try_get(key)?;
+    let is_made = match (before, f(before)) {
+        (None, None) => true,
+        (None, Some(value)) => caller.try_insert_absent(key, value)?.is_none(),
+        (Some(current), after) => caller.try_exchange(key, current, after)?,
+    };
+    if is_made {
+        Ok(before)
+    } else {
+        Err(TryError::Busy)
     }
 }
 

@@ -815,6 +815,31 @@ impl Guard {
         loops::compute(self, key, f)
     }
 
+    /// Calls the closure with the key's value or `None`. Stores the value that the closure returns, or removes the key
+    /// for `None`. Returns the previous value. The closure is called outside of the lock, so it may take long, or call
+    /// the map. Doesn't wait: returns [`TryError::Busy`], with no pair changed, if a lock of the call was taken at each
+    /// of a bounded number of tries. Returns [`TryError::Busy`] also if another call changed the key after the look-up.
+    /// So the closure is called once, or not at all. Returns [`TryError::OutOfMemory`], with nothing changed, if there
+    /// is no memory or the limit is reached. A present key needs no memory.
+    ///
+    /// ```
+    /// # fn main() -> Result<(), Box<dyn std::error::Error>> {
+    /// let guard = proved_congee::SharedMap::new()?.pin()?;
+    /// guard.insert(7, 70)?;
+    /// assert_eq!(guard.try_compute(7, |value| Some(value? / 2))?, Some(70));
+    /// assert_eq!(guard.try_compute(7, |_| None)?, Some(35));
+    /// assert_eq!(guard.get(7), None);
+    /// # Ok(())
+    /// # }
+    /// ```
+    pub fn try_compute(
+        &self,
+        key: u64,
+        f: impl FnOnce(Option<u64>) -> Option<u64>,
+    ) -> Result<Option<u64>, TryError> {
+        loops::try_compute(self, key, f)
+    }
+
     /// Returns the pair with the least key, or `None` for an empty map. While other calls have the lock, the call yields
     /// and tries again.
     ///

@@ -243,7 +243,7 @@ WHY_WAITS = (
     ("limit", "Rust Rattle", "*", "never busy"),
     ("*", "Rattle", "Shared", "`sharded`"),
     ("contains_key", "*", "*", "`try_get`"),
-    ("get_or_insert_with compute", "*", "*", "closure"),
+    ("get_or_insert_with", "*", "*", "closure"),
     ("each each_descending keys values insert_many remove_range_inclusive retain clear snapshot", "*", "*", "many pairs"),
 )
 

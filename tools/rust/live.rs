@@ -3,7 +3,7 @@
 //! pop beside those that insert: each pair goes to one of them, and none is lost. A thread that clears beside others. Closures that
 //! change their key by another guard.
 
-use proved_congee::{Busy, LiveGuard, LiveMap, OutOfMemory, Pair};
+use proved_congee::{Busy, LiveGuard, LiveMap, OutOfMemory, Pair, TryError};
 use std::collections::BTreeMap;
 use std::sync::atomic::{AtomicBool, AtomicU64, Ordering};
 use std::thread;
@@ -95,7 +95,10 @@ fn change(guard: &LiveGuard, plain: &mut Plain, at: u64, value: u64, seed: &mut 
             if let Some(half) = halved(wanted) {
                 plain.insert(at, half);
             }
-            assert_eq!(guard.compute(at, halved), Ok(wanted));
+            match value {
+                0 => assert_eq!(guard.try_compute(at, halved), Ok(wanted)),
+                _ => assert_eq!(guard.compute(at, halved), Ok(wanted)),
+            }
         }
         _ => {
             let wanted = *plain.entry(at).or_insert(value);
@@ -370,7 +373,12 @@ fn computes() -> Result<(), OutOfMemory> {
                     let at = next(&mut seed) % 8;
                     let raised =
                         |it: Option<u64>| Some(it.unwrap_or(0) + 1).filter(|it| it % 10 > 0);
-                    if guard.compute(at, raised).unwrap() == Some(9) {
+                    let raise = || match guard.try_compute(at, raised) {
+                        // (by either form)
+                        Err(TryError::Busy) => guard.compute(at, raised).unwrap(),
+                        before => before.unwrap(),
+                    };
+                    if raise() == Some(9) {
                         gone.fetch_add(10, Ordering::Relaxed);
                     }
                     if i % 64 == 0 {
@@ -448,6 +456,25 @@ fn copies_follow_the_keys() -> Result<(), OutOfMemory> {
     })
 }
 
+/// The answer of a change that doesn't wait, once its closure was called.
+fn once_called(
+    guard: &LiveGuard,
+    key: u64,
+    mut f: impl FnMut(Option<u64>) -> Option<u64>,
+) -> Result<Option<u64>, TryError> {
+    loop {
+        let mut is_called = false;
+        let changed = guard.try_compute(key, |value| {
+            is_called = true;
+            f(value)
+        });
+        if is_called {
+            return changed;
+        }
+        assert_eq!(changed, Err(TryError::Busy));
+    }
+}
+
 /// Closures during which another guard changes the key.
 fn meddled() -> Result<(), OutOfMemory> {
     let map = LiveMap::new()?;
@@ -470,6 +497,24 @@ fn meddled() -> Result<(), OutOfMemory> {
     });
     assert_eq!((before, guard.get(7)), (Ok(Some(90)), Some(4)));
     assert_eq!(seen, [Some(70), Some(80), None, Some(90)]);
+    // (a change that doesn't wait is busy then, and changes nothing)
+    let changed = once_called(&guard, 7, |value| {
+        assert_eq!((value, other.insert(7, 5)), (Some(4), Ok(Some(4))));
+        Some(6)
+    });
+    assert_eq!((changed, guard.get(7)), (Err(TryError::Busy), Some(5)));
+    let removed = once_called(&guard, 7, |_| {
+        assert_eq!(other.remove(7), Some(5));
+        None
+    });
+    assert_eq!((removed, guard.get(7)), (Err(TryError::Busy), None));
+    let inserted = once_called(&guard, 7, |value| {
+        assert_eq!((value, other.insert(7, 8)), (None, Ok(None)));
+        Some(9)
+    });
+    assert_eq!((inserted, guard.get(7)), (Err(TryError::Busy), Some(8)));
+    assert_eq!(once_called(&guard, 70, |_| None), Ok(None));
+    assert_eq!(guard.insert(7, 4), Ok(Some(8)));
     guard.extend([(8, 80), (9, 90), (600, 6000)])?;
     guard.retain(|key, _| {
         if key == 8 {

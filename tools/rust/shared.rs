@@ -104,7 +104,10 @@ fn change(guard: &Guard, plain: &mut Plain, at: u64, value: u64, seed: &mut u64)
             if let Some(half) = halved(wanted) {
                 plain.insert(at, half);
             }
-            assert_eq!(guard.compute(at, halved), Ok(wanted));
+            match waits {
+                true => assert_eq!(guard.compute(at, halved), Ok(wanted)),
+                false => assert_eq!(guard.try_compute(at, halved), Ok(wanted)),
+            }
         }
     }
 }
@@ -254,7 +257,12 @@ fn raise(guard: &Guard, number: u64) -> Result<(), OutOfMemory> {
                 guard.add(at, 1)?;
             }
             1 => {
-                guard.compute(at, |current| Some(current.unwrap_or(0) + 1))?;
+                let raised = |current: Option<u64>| Some(current.unwrap_or(0) + 1);
+                match guard.try_compute(at, raised) {
+                    Err(TryError::Busy) => guard.compute(at, raised)?,
+                    Err(TryError::OutOfMemory) => return Err(OutOfMemory),
+                    Ok(before) => before,
+                };
             }
             2 => loop {
                 match guard.try_add(at, 1) {
