@@ -177,9 +177,9 @@ static uint64_t first_found(const struct map_kind *kind, uint64_t seeds) {
 static bool is_found(const struct map_kind *kind, uint64_t seeds, const char *what) {
     uint64_t seed = first_found(kind, seeds);
     if (seed)
-        printf("%s: found by seed %" PRIu64 "\n", what, seed);
+        printf("%s, %s: found by seed %" PRIu64 "\n", kind->name, what, seed);
     else
-        printf("%s: not found by %" PRIu64 " seeds\n", what, seeds);
+        printf("%s, %s: not found by %" PRIu64 " seeds\n", kind->name, what, seeds);
     return seed;
 }
 
@@ -240,7 +240,7 @@ static int answer(const struct map_kind *kind, int words, char **word) {
     if (words > 2 && strcmp(word[2], "seed") == 0)
         return !show(kind, number);
     if (words > 2 && strcmp(word[2], "found") == 0)
-        return !is_found(kind, number, kind->name);
+        return !is_found(kind, number, "as it is");
     if (words > 4 && strcmp(word[2], "without") == 0)
         return !leaves_out(kind, number, strtoull(word[4], NULL, 10), words > 5 ? strtoull(word[5], NULL, 10) : 0);
     return !are_right(kind, words > 2 ? strtoull(word[2], NULL, 10) : 2000, number);
