@@ -71,16 +71,20 @@ macro_rules! owners {
         fn $name() -> Result<(), OutOfMemory> {
             let map = $map?;
             let guard = map.pin()?;
-            thread::scope(|scope| {
-                for key in 0..4 {
+            let threads: Vec<_> = (0..4)
+                .map(|key| {
                     let own = map.clone();
-                    scope.spawn(move || {
+                    thread::spawn(move || {
                         let guard = own.clone().pin().unwrap();
                         drop(own);
                         assert_eq!(guard.insert(key, key * 10), Ok(None));
-                    });
-                }
-            });
+                    })
+                })
+                .collect();
+            // (a scope wouldn't wait until a thread's own blocks are freed)
+            for thread in threads {
+                thread.join().expect("no thread panics");
+            }
             let other = map.clone();
             drop(map);
             let guards = [other.pin()?, guard];
