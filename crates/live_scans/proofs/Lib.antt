@@ -13,5 +13,5 @@ pub mod Firsts
 pub mod Downs
 pub mod Behinds
 pub mod Ends
-pub mod Steps
+pub mod LeafSteps
 pub mod Knowing

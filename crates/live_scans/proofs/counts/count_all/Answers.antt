@@ -5,7 +5,7 @@ use Rattle.live_scans.proofs.Composed.{more_same, nothing_read}
 use Rattle.live_scans.specs.inner.Moments.{ReadsOn}
 use Rattle.live_scans.proofs.Passes.{keeps_same, seen_since}
 use Rattle.live_scans.specs.inner.LeafSteps.{Counts}
-use Rattle.live_scans.proofs.Steps.{then_step, then_count}
+use Rattle.live_scans.proofs.LeafSteps.{then_step, then_count}
 use Rattle.live_scans.proofs.counts.count_all.Goals as goal
 
 pub loop-stepped-init : goal.loop-stepped-init

@@ -2,7 +2,7 @@ use Rattle.std.proofs.Common.{◌∙◌}
 use Rattle.live_nodes.specs.Seats.{place}
 use Rattle.live_reads.proofs.Finds.{keeps_then}
 use Rattle.live_scans.proofs.Passes.{seen_since}
-use Rattle.live_scans.proofs.Steps.{step_since}
+use Rattle.live_scans.proofs.LeafSteps.{step_since}
 use Rattle.live_scans.proofs.counts.leaves.step_on.Goals as goal
 
 pub try_step-requires-clause-trunk : goal.try_step-requires-clause-trunk

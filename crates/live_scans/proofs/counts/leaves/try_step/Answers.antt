@@ -6,7 +6,7 @@ use Rattle.live_scans.proofs.Composed.{more_same}
 use Rattle.live_scans.proofs.Passes.{seen_equal, seen_since}
 use Rattle.live_scans.proofs.Nexts.{reaches_since, stands_on}
 use Rattle.live_scans.specs.inner.LeafSteps.{IsStep}
-use Rattle.live_scans.proofs.Steps.{gap_step, leaf_step, first_whole, step_after}
+use Rattle.live_scans.proofs.LeafSteps.{gap_step, leaf_step, first_whole, step_after}
 use Rattle.live_scans.proofs.counts.leaves.try_step.Goals as goal
 
 pub returns-in_err-sought : goal.returns-in_err-sought
