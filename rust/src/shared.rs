@@ -1480,8 +1480,8 @@ impl Guard {
         waiting(|| self.try_clear());
     }
 
-    /// Removes all pairs, at one moment. Other calls wait meanwhile. Never out of memory. Doesn't wait: returns [`Busy`],
-    /// with nothing changed, if a lock of the call was taken at each of a bounded number of tries.
+    /// Removes all pairs, at one moment. Other calls are busy meanwhile. Never out of memory. Doesn't wait: returns
+    /// [`Busy`], with nothing changed, if a lock of the call was taken at each of a bounded number of tries.
     ///
     /// ```
     /// # fn main() -> Result<(), Box<dyn std::error::Error>> {

@@ -111,6 +111,34 @@ def owned_calls():
     return {it for it in names if not it.startswith("law_")}
 
 
+# Errors in whose type it is that there was no memory.
+OUT_OF_MEMORY = ("OutOfMemory", "TryError", "ExtendError", "FreezeError", "Self::Error")
+# Calls with `try_` of one owner alone, which nobody keeps waiting, or that make a guard or an owner and never wait.
+NEVER_WAIT = "try_append try_clone try_extend try_from_iter try_split_off".split()
+
+
+def rust_signatures():
+    """Each public function of the Rust crate: its file and name, its documentation without the example, and its signature."""
+    item = re.compile(r"((?:^ *///.*\n)+)((?:^ *#\[(?:(?!\]\n)[\s\S])*\]\n)*)^ *pub (?:const )?fn (\w+)((?:(?!\{\n)[\s\S])*)\{$", re.M)
+    for path in files("rust/src", ".rs"):
+        for comment, attributes, name, rest in item.findall(text_of(path)):
+            text = " ".join(it.strip().removeprefix("///").strip() for it in comment.partition("/// ```")[0].splitlines())
+            if "deprecated" not in attributes:
+                yield f"{path}, {name}", name, text, rest.partition("->")[2]
+
+
+def rust_faults():
+    """Calls with `try_` that wait, or whose error isn't one of those that don't, and calls that lack memory by another type."""
+    for where, name, text, returned in rust_signatures():
+        if name.startswith("try_"):
+            if re.search(r"\byields\b|(?<!n't )\b[Ww]aits? (?!for nobody)", text):
+                yield f"{where} waits"
+            if name not in NEVER_WAIT and not re.search(r"\b(?:Busy|TryError)>", returned):
+                yield f"{where} has an error without Busy"
+        if re.search(r"\[`(?:TryError::)?OutOfMemory`\]", text) and not any(it in returned for it in OUT_OF_MEMORY):
+            yield f"{where} may lack memory, and its type hasn't that"
+
+
 def faults(defined):
     """What the pages list otherwise than the sources. `defined` decides whether a crate has a name."""
     for page, forms in FORMS.items():
@@ -124,6 +152,7 @@ def faults(defined):
         if kind != "Map":
             here = {name for of, name in made_by() if of == kind}
             yield f"docs/RUST.md, {kind}", differences("docs/RUST.md", here, methods(file, name))
+    yield "rust/src, calls with try_ and errors", [*rust_faults()]
     yield "docs/LIVE.md, calls of congee_live.h", differences("docs/LIVE.md", live_calls(), calls_of_header("congee_live", "congee_live_"))
     yield "docs/C.md, arguments", [f"{it} is {there} in the header" for it, there in arguments() if it != there]
     codes = set(re.findall(r"(?m)^#define (CONGEE_\w+) \(?(-?\d+)\)?$", text_of("include/congee.h")))
