@@ -928,6 +928,22 @@ static inline int congee_live_snapshot(const struct congee_live *map, struct con
     }
 }
 
+/* Copies the pairs, and freezes the copy: threads look at it side by side, each by a reader of its own (congee.h).
+ * Returns CONGEE_DONE with the first reader in *out, or CONGEE_OOM with null there and no copy left. The live map is
+ * unchanged. congee_thaw makes a map with one owner of the copy, by its last reader.
+ *
+ * The copy is of no single moment: each key is read at a moment of the call, and no moment is before the moment of a
+ * lower key (congee_live_snapshot). While writers lock or change nodes on the way, the call yields and tries again. */
+static inline int congee_live_snapshot_frozen(const struct congee_live *map, struct congee_frozen **out) {
+    struct congee *copy;
+    int code = congee_live_snapshot(map, &copy);
+    *out = NULL;
+    if (code == CONGEE_DONE)
+        code = congee_freeze(&copy, out);
+    congee_free(copy);
+    return code;
+}
+
 /* -- Counts -- */
 
 /* Tests whether the map has no pair, by a search for the first pair. Returns 1 if the call found no pair, so no key was

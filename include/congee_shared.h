@@ -919,6 +919,22 @@ static inline int congee_shared_snapshot(const struct congee_shared *map, struct
     }
 }
 
+/* Copies the pairs, and freezes the copy: threads look at it side by side, each by a reader of its own (congee.h).
+ * Returns CONGEE_DONE with the first reader in *out, or CONGEE_OOM with null there and no copy left. The shared map is
+ * unchanged. congee_thaw makes a map with one owner of the copy, by its last reader.
+ *
+ * The copy is made of pages of one moment each, and calls of other handles come in between two pages
+ * (congee_shared_snapshot). While a lock is taken, the call yields and tries again. */
+static inline int congee_shared_snapshot_frozen(const struct congee_shared *map, struct congee_frozen **out) {
+    struct congee *copy;
+    int code = congee_shared_snapshot(map, &copy);
+    *out = NULL;
+    if (code == CONGEE_DONE)
+        code = congee_freeze(&copy, out);
+    congee_free(copy);
+    return code;
+}
+
 #ifdef __cplusplus
 }
 #endif

@@ -59,6 +59,7 @@ struct form {
     int (*try_limit)(void *map, uint64_t *bytes);
     void (*usage)(void *map, uint64_t *charged, uint64_t *limit);
     int (*snapshot)(void *map, struct congee **out);
+    int (*snapshot_frozen)(void *map, struct congee_frozen **out);
     uint64_t least; /* the least limit with which a map is made, and what the limit is then */
 };
 
@@ -94,6 +95,8 @@ CALL(live, int, try_compute, (void *it, uint64_t key, congee_updater *f, void *w
 CALL(shared, int, try_limit, (void *it, uint64_t *bytes), it, bytes)
 CALL(shared, int, snapshot, (void *it, struct congee **out), it, out)
 CALL(live, int, snapshot, (void *it, struct congee **out), it, out)
+CALL(shared, int, snapshot_frozen, (void *it, struct congee_frozen **out), it, out)
+CALL(live, int, snapshot_frozen, (void *it, struct congee_frozen **out), it, out)
 
 #define MAKE(form, type, code_without, code_within)                                                                         \
     static void *form##_make(uint64_t limit) {                                                                              \
@@ -111,12 +114,14 @@ MAKE(live, struct congee_live, congee_live_new(&it), congee_live_new_with_limit(
     .each_descending = form##_each_descending, .insert_many = form##_insert_many,                                           \
     .remove_range = form##_remove_range_inclusive, .count = form##_count, .limit = form##_limit, .usage = form##_usage
 #define SHARED_ENTRIES                                                                                                      \
-    ENTRIES(shared), .try_compute = shared_try_compute, .try_limit = shared_try_limit, .snapshot = shared_snapshot
+    ENTRIES(shared), .try_compute = shared_try_compute, .try_limit = shared_try_limit, .snapshot = shared_snapshot,         \
+        .snapshot_frozen = shared_snapshot_frozen
 static const struct form forms[] = {
     {"a map with one owner", .make = owned_make, ENTRIES(owned), .least = 2104},
     {"a map under one lock", .make = shared_make, SHARED_ENTRIES, .least = 2104},
     {"a map in shards", .make = sharded_make, SHARED_ENTRIES, .least = 64 * 2104},
-    {"a live map", .make = live_make, ENTRIES(live), .try_compute = live_try_compute, .snapshot = live_snapshot, .least = 8192},
+    {"a live map", .make = live_make, ENTRIES(live), .try_compute = live_try_compute, .snapshot = live_snapshot,
+     .snapshot_frozen = live_snapshot_frozen, .least = 8192},
 };
 enum { FORMS = sizeof forms / sizeof *forms };
 static const struct form *form;
@@ -377,6 +382,9 @@ static void call_copies(void) {
         need(congee_get(copy, 1, &value) == CONGEE_ABSENT && form->get(map, 2, &value) == CONGEE_ABSENT, "two maps");
         need(congee_freeze(&copy, &reader) == CONGEE_DONE && congee_frozen_get(reader, 2, &value) == CONGEE_PRESENT, "a reader");
         congee_frozen_free(reader);
+        need(form->snapshot_frozen(map, &reader) == CONGEE_DONE && congee_frozen_count(reader) == n + 1, "a frozen copy");
+        need(congee_thaw(&reader, &copy) == 1 && congee_count(copy) == n + 1, "a frozen copy that is thawed");
+        congee_free(copy);
         form->free(map);
     }
 }
@@ -400,6 +408,18 @@ static long refuse_copies(void) {
     }
     need(congee_count(copy) == MANY, "a copy with just enough memory");
     congee_free(copy);
+    /* (a frozen one takes two blocks more) */
+    struct congee_frozen *reader;
+    for (long frozen = 0;; frozen++) {
+        reader = (struct congee_frozen *)&before;
+        left = frozen;
+        int code = form->snapshot_frozen(map, &reader);
+        left = -1;
+        if (code == CONGEE_DONE)
+            break;
+        need(code == CONGEE_OOM && reader == NULL && live == before, "a frozen copy without memory");
+    }
+    congee_frozen_free(reader);
     form->free(map);
     need(granted > 10 && live == 0, "each request of a copy is refused, and no block is lost");
     return granted;

@@ -145,6 +145,7 @@ ROWS = (
     row("clear"),
     row("shrink_to_fit"),
     row("snapshot", {"": "snapshot", "Map": "copy"}, {"": "snapshot", "Map": "try_clone"}),
+    row("snapshot_frozen", "-", "-", "-"),
     row("is_empty", "empty"),
     row("count", "size", "len", "value_count"),
     row("charged"),
@@ -208,6 +209,11 @@ WHY = (
     ("shrink_to_fit", "C++", "Map", "native"),
     ("shrink_to_fit", "*", "Shared Sharded", "by removals"),
     ("shrink_to_fit", "*", "Live", "segments"),
+    ("snapshot_frozen", "C", "Map", "`freeze`"),
+    ("snapshot_frozen", "*", "Frozen", "frozen"),
+    ("snapshot_frozen", "C++", "*", "native"),
+    ("snapshot_frozen", "Rust", "*", "`freeze`"),
+    ("snapshot_frozen", "Rattle", "*", "lent"),
     ("snapshot", "C", "Map Frozen", "loop"),
     ("snapshot", "Rust", "Frozen", "`try_from_iter`"),
     ("snapshot", "Rattle", "*", "loop"),
@@ -244,7 +250,7 @@ WHY_WAITS = (
     ("*", "Rattle", "Shared", "`sharded`"),
     ("contains_key", "*", "*", "`try_get`"),
     ("get_or_insert_with", "*", "*", "closure"),
-    ("each each_descending keys values insert_many remove_range_inclusive retain clear snapshot", "*", "*", "many pairs"),
+    ("each each_descending keys values insert_many remove_range_inclusive retain clear snapshot snapshot_frozen", "*", "*", "many pairs"),
 )
 
 
