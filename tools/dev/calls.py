@@ -186,7 +186,8 @@ WHY = (
     ("meet note learn", "*", "Frozen", "frozen"),
     ("charged limit usage", "C", "Frozen", "no export"),
     ("contains_key", "C Rattle", "*", "`get`"),
-    ("insert_absent", "C Rattle", "Map Shared Sharded Live", "`get_or_insert`"),
+    ("insert_absent", "Rattle", "Map Shared", "`compute_or_insert`"),
+    ("insert_absent", "C Rattle", "*", "`get_or_insert`"),
     ("insert_absent", "C++", "*", "`try_emplace`"),
     ("get_or_insert_with", "C C++", "*", "`compute`"),
     ("get_or_insert_with", "Rattle", "Sharded", "`get_or_insert`"),
@@ -209,15 +210,16 @@ WHY = (
     ("shrink_to_fit", "C++", "Map", "native"),
     ("shrink_to_fit", "*", "Shared Sharded", "by removals"),
     ("shrink_to_fit", "*", "Live", "segments"),
-    ("snapshot_frozen", "C", "Map", "`freeze`"),
+    ("snapshot_frozen", "C Rust", "Map", "`freeze`"),
     ("snapshot_frozen", "*", "Frozen", "frozen"),
     ("snapshot_frozen", "C++", "*", "native"),
-    ("snapshot_frozen", "Rust", "*", "`freeze`"),
+    ("snapshot_frozen", "Rust", "*", "`snapshot`"),
     ("snapshot_frozen", "Rattle", "*", "lent"),
     ("snapshot", "C", "Map Frozen", "loop"),
-    ("snapshot", "Rust", "Frozen", "`try_from_iter`"),
+    ("snapshot", "Rust", "Frozen", "`iter`"),
     ("snapshot", "Rattle", "*", "loop"),
-    ("limit usage", "Rattle", "Map Shared", "`allocator`"),
+    ("limit usage", "Rattle", "Map", "`allocator`"),
+    ("limit usage", "Rattle", "Shared", "budget"),
     ("charged", "Rattle", "Shared", "`sharded`"),
     ("usage", "Rattle", "Sharded", "`charged`, `limit`"),
 )
@@ -232,6 +234,7 @@ WORDS = {
     "lent": "in Rattle threads read a map that is lent by `&`, so nothing is frozen",
     "loop": "a loop over the calls that are there",
     "no export": "the library has no such function yet",
+    "budget": "the map has its budget to itself, and lends it to nobody",
     "by removals": "a removal does it, where three quarters are free",
     "segments": "the map keeps its segments",
 }
@@ -376,6 +379,17 @@ def missing_words():
                     yield f"{id_of(of)} of {form} isn't there in {language}, and no word tells why"
 
 
+def lost_names():
+    """Words that name a call which the form hasn't either."""
+    for of in ROWS:
+        for form in FORMS:
+            for language in LANGUAGES:
+                is_missing = form in HAS[language] and not has(of[language][form], language, form)
+                for name in named(word_for(id_of(of), language, form) or "") if is_missing else []:
+                    if name != "sharded" and not has(name, language, form):
+                        yield f"{id_of(of)} of {form} in {language} names {name}, which isn't there"
+
+
 def idle_words():
     """Words for calls that are there."""
     for names, languages, forms, word in WHY:
@@ -413,7 +427,7 @@ def waiting_ones():
 
 
 def faults():
-    yield "docs/USING.md, calls that are missing", [*missing_words(), *idle_words()]
+    yield "docs/USING.md, calls that are missing", [*missing_words(), *idle_words(), *lost_names()]
     yield "docs/USING.md, calls in no row", [*unlisted()]
     yield "docs/USING.md, calls without try_", [*waiting_ones()]
     yield "docs/USING.md, the table of calls", ["run tools/dev/make-pages"] * (table() not in text_of("docs/USING.md"))
