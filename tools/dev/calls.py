@@ -39,7 +39,7 @@ def of_class(name):
 def of_rust(file, *kinds):
     text, found = text_of(f"rust/src/{file}.rs"), set()
     for kind in kinds:
-        for block in re.findall(rf"(?ms)^impl {kind} \{{$(.*?)^\}}$", text):
+        for block in re.findall(rf"(?ms)^impl(?:<K: Word, V: Word>)? {kind}(?:<K, V>)? \{{$(.*?)^\}}$", text):
             block = re.sub(r"(?s)#\[deprecated\b[^\]]*\]\s*pub fn \w+", "", block)
             found |= {*re.findall(r"(?m)^    pub (?:const )?fn (\w+)", block)}
         if re.search(rf"(?m)^#\[derive\([^)]*\bClone\b[^)]*\)\]\npub struct {kind}\b", text):
@@ -59,6 +59,25 @@ def of_face(crate, guard=None):
         if "tests" not in path:
             found |= {*re.findall(r"(?m)^    pub fn (meet|note|learn)\(&mut self", text_of(path))}
     return {it for it in found if not it.startswith("law_")}
+
+
+# The typed maps of Rust, and what each is over.
+TYPED = (
+    (("keyed/map", "OrdMap"), ("map", "Map")),
+    (("keyed/shared", "OrdGuard"), ("shared", "Guard")),
+    (("keyed/live", "OrdLiveGuard"), ("live", "LiveGuard")),
+    (("keyed/shared", "OrdSharedMap"), ("shared", "SharedMap")),
+    (("keyed/live", "OrdLiveMap"), ("live", "LiveMap")),
+)
+# The calls of numbers that typed maps lack, beside those of guards with `try_`: sums, pages of numbers, and readers.
+UNTYPED = "add freeze read_range read_range_descending read_range_inclusive".split()
+
+
+def untyped():
+    """Which calls the typed maps lack."""
+    for typed, of in TYPED:
+        found = of_rust(*of) - of_rust(*typed) - {"clone"}
+        yield from (it for it in found if not it.startswith("try_"))
 
 
 @functools.cache
@@ -359,6 +378,8 @@ def table():
     found += lines(("Call", *THREADS), grouped([it for it in rows if any(it[1:])]))
     found.append("\n")
     found += [f"- *{word}*: {meaning}\n" for word, meaning in WAITING.items()]
+    found.append(f"\nThe typed maps of Rust (`keyed`) lack {', '.join(f'`{it}`' for it in UNTYPED)},\n")
+    found.append("and their guards the calls with `try_`: `as_map`, `into_map` and `as_guard` lend or return what has them.\n")
     found.append("\nIn no row are calls that a language has for itself:\n\n")
     found += ["\n".join(textwrap.wrap(own(it), 116, subsequent_indent="  ", break_on_hyphens=False)) + "\n" for it in LANGUAGES]
     return "".join(found)
@@ -430,4 +451,5 @@ def faults():
     yield "docs/USING.md, calls that are missing", [*missing_words(), *idle_words(), *lost_names()]
     yield "docs/USING.md, calls in no row", [*unlisted()]
     yield "docs/USING.md, calls without try_", [*waiting_ones()]
+    yield "docs/USING.md, typed maps", [f"{it} is lacking on one side alone" for it in sorted({*untyped()} ^ {*UNTYPED})]
     yield "docs/USING.md, the table of calls", ["run tools/dev/make-pages"] * (table() not in text_of("docs/USING.md"))
