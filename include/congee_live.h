@@ -29,9 +29,12 @@
  * value at a moment after the beginning. The moments follow the keys upwards, and for congee_live_last,
  * congee_live_floor and congee_live_below downwards.
  *
- * congee_live_compute, pops, ranges downwards and calls of many pairs make several of the library's calls. Each of
- * those is in the history by itself, and calls of other handles come in between. What such a function does by them is
- * tested, and no theorem states it.
+ * A pop is in the history by the beginning of each search, and by the removal of the pair that the last search found.
+ * If another handle removed or changed a found pair first, a comparison that failed is in the history.
+ *
+ * congee_live_compute, ranges downwards and calls of many pairs make several of the library's calls. Each of those is
+ * in the history by itself, and calls of other handles come in between. What such a function does by them is tested,
+ * and no theorem states it.
  *
  * The functions for use are plain C around the library's own, and are tested. Tested, and not proved, are also the
  * costs that a comment names, the locks and the memory that a call takes, and that congee_live_charged counts each
@@ -743,22 +746,50 @@ static inline size_t congee_live_range_descending(const struct congee_live *map,
 
 /* -- Pops -- */
 
+/* Removes the pair with the least key, if that key is at most `key`: finds the pair as congee_live_first does, and
+ * removes the key if its value is still the one found. Returns CONGEE_PRESENT with the removed pair in *pair, or
+ * CONGEE_ABSENT if the call found no such pair, which leaves *pair unchanged. Each pair goes to one caller. No lesser
+ * key was present throughout the call, and with CONGEE_ABSENT no key that is at most `key` was. A lesser key that
+ * another handle inserts meanwhile stays. A pop is never out of memory. If another handle removes or changes the found
+ * pair first, the call searches again. Returns CONGEE_BUSY, which leaves all pairs and *pair unchanged, if writers
+ * locked or changed nodes on the way at each of the call's tries, or after a thousand searches. */
+static inline int congee_live_try_pop_first_to(struct congee_live *map, uint64_t key, struct congee_pair *pair) {
+    struct congee_live_handle handle = {map};
+    struct congee_pair it = {0, 0};
+    int code = congee_c_live_pop_first_to(&handle, key, &it);
+    if (code == 1 && pair)
+        *pair = it;
+    return code;
+}
+
+/* Removes the pair with the least key, if that key is at most `key`: finds the pair as congee_live_first does, and
+ * removes the key if its value is still the one found. Returns CONGEE_PRESENT with the removed pair in *pair, or
+ * CONGEE_ABSENT if the call found no such pair, which leaves *pair unchanged. Each pair goes to one caller. No lesser
+ * key was present throughout the call, and with CONGEE_ABSENT no key that is at most `key` was. A lesser key that
+ * another handle inserts meanwhile stays. A pop is never out of memory. While writers lock or change nodes on the way,
+ * the call yields and tries again. If another handle removes or changes the found pair first, the call searches
+ * again. */
+static inline int congee_live_pop_first_to(struct congee_live *map, uint64_t key, struct congee_pair *pair) {
+    struct congee_pair it = {0, 0};
+    int code;
+    while ((code = congee_live_try_pop_first_to(map, key, &it)) == CONGEE_BUSY)
+        CONGEE_YIELD();
+    if (code != 1)
+        return 0;
+    if (pair)
+        *pair = it;
+    return 1;
+}
+
 /* Removes the pair with the least key: finds the pair as congee_live_first does, and removes the key if its value is
  * still the one found. Returns CONGEE_PRESENT with the removed pair in *pair, or CONGEE_ABSENT if the call found no
  * pair, which leaves *pair unchanged. Each pair goes to one caller. No lesser key was present throughout the call, and
  * with CONGEE_ABSENT no key was. A lesser key that another handle inserts meanwhile stays. A pop is never out of
- * memory. Returns CONGEE_BUSY, which leaves all pairs and *pair unchanged, if writers locked or changed nodes on the
- * way at each of the call's tries, or if another handle removed or changed the found pair first. */
+ * memory. If another handle removes or changes the found pair first, the call searches again. Returns CONGEE_BUSY,
+ * which leaves all pairs and *pair unchanged, if writers locked or changed nodes on the way at each of the call's
+ * tries, or after a thousand searches. */
 static inline int congee_live_try_pop_first(struct congee_live *map, struct congee_pair *pair) {
-    struct congee_pair it = {0, 0};
-    int code = congee_live_try_first(map, &it);
-    if (code != CONGEE_PRESENT)
-        return code;
-    if (congee_live_try_compare_remove(map, it.key, it.value, NULL) != CONGEE_PRESENT)
-        return CONGEE_BUSY;
-    if (pair)
-        *pair = it;
-    return CONGEE_PRESENT;
+    return congee_live_try_pop_first_to(map, UINT64_MAX, pair);
 }
 
 /* Removes the pair with the least key: finds the pair as congee_live_first does, and removes the key if its value is
@@ -768,32 +799,53 @@ static inline int congee_live_try_pop_first(struct congee_live *map, struct cong
  * memory. While writers lock or change nodes on the way, the call yields and tries again. If another handle removes or
  * changes the found pair first, the call searches again. */
 static inline int congee_live_pop_first(struct congee_live *map, struct congee_pair *pair) {
+    return congee_live_pop_first_to(map, UINT64_MAX, pair);
+}
+
+/* Removes the pair with the greatest key, if that key is at least `key`: finds the pair as congee_live_last does, and
+ * removes the key if its value is still the one found. Returns CONGEE_PRESENT with the removed pair in *pair, or
+ * CONGEE_ABSENT if the call found no such pair, which leaves *pair unchanged. Each pair goes to one caller. No greater
+ * key was present throughout the call, and with CONGEE_ABSENT no key that is at least `key` was. A greater key that
+ * another handle inserts meanwhile stays. A pop is never out of memory. If another handle removes or changes the found
+ * pair first, the call searches again. Returns CONGEE_BUSY, which leaves all pairs and *pair unchanged, if writers
+ * locked or changed nodes on the way at each of the call's tries, or after a thousand searches. */
+static inline int congee_live_try_pop_last_from(struct congee_live *map, uint64_t key, struct congee_pair *pair) {
+    struct congee_live_handle handle = {map};
     struct congee_pair it = {0, 0};
-    do {
-        if (congee_live_first(map, &it) == CONGEE_ABSENT)
-            return CONGEE_ABSENT;
-    } while (congee_live_compare_remove(map, it.key, it.value, NULL) != CONGEE_PRESENT);
+    int code = congee_c_live_pop_last_from(&handle, key, &it);
+    if (code == 1 && pair)
+        *pair = it;
+    return code;
+}
+
+/* Removes the pair with the greatest key, if that key is at least `key`: finds the pair as congee_live_last does, and
+ * removes the key if its value is still the one found. Returns CONGEE_PRESENT with the removed pair in *pair, or
+ * CONGEE_ABSENT if the call found no such pair, which leaves *pair unchanged. Each pair goes to one caller. No greater
+ * key was present throughout the call, and with CONGEE_ABSENT no key that is at least `key` was. A greater key that
+ * another handle inserts meanwhile stays. A pop is never out of memory. While writers lock or change nodes on the way,
+ * the call yields and tries again. If another handle removes or changes the found pair first, the call searches
+ * again. */
+static inline int congee_live_pop_last_from(struct congee_live *map, uint64_t key, struct congee_pair *pair) {
+    struct congee_pair it = {0, 0};
+    int code;
+    while ((code = congee_live_try_pop_last_from(map, key, &it)) == CONGEE_BUSY)
+        CONGEE_YIELD();
+    if (code != 1)
+        return 0;
     if (pair)
         *pair = it;
-    return CONGEE_PRESENT;
+    return 1;
 }
 
 /* Removes the pair with the greatest key: finds the pair as congee_live_last does, and removes the key if its value is
  * still the one found. Returns CONGEE_PRESENT with the removed pair in *pair, or CONGEE_ABSENT if the call found no
  * pair, which leaves *pair unchanged. Each pair goes to one caller. No greater key was present throughout the call, and
  * with CONGEE_ABSENT no key was. A greater key that another handle inserts meanwhile stays. A pop is never out of
- * memory. Returns CONGEE_BUSY, which leaves all pairs and *pair unchanged, if writers locked or changed nodes on the
- * way at each of the call's tries, or if another handle removed or changed the found pair first. */
+ * memory. If another handle removes or changes the found pair first, the call searches again. Returns CONGEE_BUSY,
+ * which leaves all pairs and *pair unchanged, if writers locked or changed nodes on the way at each of the call's
+ * tries, or after a thousand searches. */
 static inline int congee_live_try_pop_last(struct congee_live *map, struct congee_pair *pair) {
-    struct congee_pair it = {0, 0};
-    int code = congee_live_try_last(map, &it);
-    if (code != CONGEE_PRESENT)
-        return code;
-    if (congee_live_try_compare_remove(map, it.key, it.value, NULL) != CONGEE_PRESENT)
-        return CONGEE_BUSY;
-    if (pair)
-        *pair = it;
-    return CONGEE_PRESENT;
+    return congee_live_try_pop_last_from(map, 0, pair);
 }
 
 /* Removes the pair with the greatest key: finds the pair as congee_live_last does, and removes the key if its value is
@@ -803,14 +855,7 @@ static inline int congee_live_try_pop_last(struct congee_live *map, struct conge
  * memory. While writers lock or change nodes on the way, the call yields and tries again. If another handle removes or
  * changes the found pair first, the call searches again. */
 static inline int congee_live_pop_last(struct congee_live *map, struct congee_pair *pair) {
-    struct congee_pair it = {0, 0};
-    do {
-        if (congee_live_last(map, &it) == CONGEE_ABSENT)
-            return CONGEE_ABSENT;
-    } while (congee_live_compare_remove(map, it.key, it.value, NULL) != CONGEE_PRESENT);
-    if (pair)
-        *pair = it;
-    return CONGEE_PRESENT;
+    return congee_live_pop_last_from(map, 0, pair);
 }
 
 /* -- Many pairs -- */

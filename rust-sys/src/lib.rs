@@ -366,5 +366,7 @@ extern "C" {
     pub fn congee_c_live_floor(handle: *mut LiveHandle, key: u64, pair: *mut Pair) -> i32;
     pub fn congee_c_live_below(handle: *mut LiveHandle, key: u64, pair: *mut Pair) -> i32;
     pub fn congee_c_live_last(handle: *mut LiveHandle, pair: *mut Pair) -> i32;
+    pub fn congee_c_live_pop_first_to(handle: *mut LiveHandle, key: u64, pair: *mut Pair) -> i32;
+    pub fn congee_c_live_pop_last_from(handle: *mut LiveHandle, key: u64, pair: *mut Pair) -> i32;
     pub fn congee_c_live_count(handle: *mut LiveHandle, out: *mut u64) -> i32;
 }

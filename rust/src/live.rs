@@ -21,8 +21,9 @@ use std::ops::RangeBounds;
 /// the map, which explains the guard's replies and has its own calls in their order. Guards that [meet](LiveGuard::meet),
 /// or hand over a [note](LiveGuard::note), are in order of time from then on. A call also comes after all calls that had
 /// ended before, by whatever guard. For guards that never met, only tests show that. Ranges, next pairs and counts are in
-/// the history by their beginning alone: each key has its value at a moment after that. This wrapper is tested, as are
-/// pops, pages downwards, iterators and calls with closures, which make several calls of the library.
+/// the history by their beginning alone: each key has its value at a moment after that. A pop is in the history by the
+/// beginning of each search, and by the removal of the found pair. This wrapper is tested, as are pages downwards,
+/// iterators and calls with closures, which make several calls of the library.
 ///
 /// ```
 /// use proved_congee::LiveMap;
@@ -1122,14 +1123,15 @@ impl LiveGuard {
     /// ```
     #[doc(alias("pop", "pop_min"))]
     pub fn pop_first(&self) -> Option<(u64, u64)> {
-        self.pop(LiveGuard::first)
+        self.pop_first_to(u64::MAX)
     }
 
     /// Removes the pair with the least key, and returns the pair, or `None` if the call found no pair. Each pair goes to
     /// one caller. The pair was found by [`first`](LiveGuard::first): no lesser key was present throughout the call. A
     /// lesser key that another call inserts meanwhile stays. With `None` no key was present throughout the call. A pop is
-    /// never out of memory. Doesn't wait: returns [`Busy`], with nothing changed, if writers locked or changed nodes on the
-    /// way at each of a bounded number of tries, or another call removed or changed the found pair first.
+    /// never out of memory. If another call removes or changes the found pair first, the call searches again. Doesn't wait:
+    /// returns [`Busy`], with no pair changed, if writers locked or changed nodes on the way at each of a bounded number of
+    /// tries, or after a thousand searches.
     ///
     /// ```
     /// # fn main() -> Result<(), Box<dyn std::error::Error>> {
@@ -1140,7 +1142,48 @@ impl LiveGuard {
     /// # }
     /// ```
     pub fn try_pop_first(&self) -> Result<Option<(u64, u64)>, Busy> {
-        self.try_take(self.try_first()?)
+        self.try_pop_first_to(u64::MAX)
+    }
+
+    /// Removes the pair with the least key, if that key is at most `key`, and returns the pair, or `None` if the call found
+    /// no such pair. Each pair goes to one caller. The pair was found by [`first`](LiveGuard::first): no lesser key was
+    /// present throughout the call. A lesser key that another call inserts meanwhile stays. With `None` no key that is at
+    /// most `key` was present throughout the call. A pop is never out of memory. While writers lock or change nodes on the
+    /// way, the call yields and tries again. If another call removes or changes the found pair first, the call searches
+    /// again.
+    ///
+    /// ```
+    /// # fn main() -> Result<(), Box<dyn std::error::Error>> {
+    /// let guard = proved_congee::LiveMap::new()?.pin()?;
+    /// guard.extend([(5, 50), (7, 70), (9, 90)])?;
+    /// assert_eq!((guard.pop_first_to(6), guard.pop_first_to(6)), (Some((5, 50)), None));
+    /// # Ok(())
+    /// # }
+    /// ```
+    pub fn pop_first_to(&self, key: u64) -> Option<(u64, u64)> {
+        waiting(|| self.try_pop_first_to(key))
+    }
+
+    /// Removes the pair with the least key, if that key is at most `key`, and returns the pair, or `None` if the call found
+    /// no such pair. Each pair goes to one caller. The pair was found by [`first`](LiveGuard::first): no lesser key was
+    /// present throughout the call. A lesser key that another call inserts meanwhile stays. With `None` no key that is at
+    /// most `key` was present throughout the call. A pop is never out of memory. If another call removes or changes the
+    /// found pair first, the call searches again. Doesn't wait: returns [`Busy`], with no pair changed, if writers locked
+    /// or changed nodes on the way at each of a bounded number of tries, or after a thousand searches.
+    ///
+    /// ```
+    /// # fn main() -> Result<(), Box<dyn std::error::Error>> {
+    /// let guard = proved_congee::LiveMap::new()?.pin()?;
+    /// guard.extend([(5, 50), (7, 70), (9, 90)])?;
+    /// assert_eq!(guard.try_pop_first_to(6)?, Some((5, 50)));
+    /// assert_eq!(guard.try_pop_first_to(6)?, None);
+    /// # Ok(())
+    /// # }
+    /// ```
+    pub fn try_pop_first_to(&self, key: u64) -> Result<Option<(u64, u64)>, Busy> {
+        let mut pair = Pair::default();
+        let code = unsafe { congee_c_live_pop_first_to(&mut self.handle(), key, &mut pair) };
+        unless_busy(code, |code| (code == 1).then(|| pair.into()))
     }
 
     /// Removes the pair with the greatest key, and returns the pair, or `None` if the call found no pair. Each pair goes to
@@ -1159,14 +1202,15 @@ impl LiveGuard {
     /// ```
     #[doc(alias = "pop_max")]
     pub fn pop_last(&self) -> Option<(u64, u64)> {
-        self.pop(LiveGuard::last)
+        self.pop_last_from(0)
     }
 
     /// Removes the pair with the greatest key, and returns the pair, or `None` if the call found no pair. Each pair goes to
     /// one caller. The pair was found by [`last`](LiveGuard::last): no greater key was present throughout the call. A
     /// greater key that another call inserts meanwhile stays. With `None` no key was present throughout the call. A pop is
-    /// never out of memory. Doesn't wait: returns [`Busy`], with nothing changed, if writers locked or changed nodes on the
-    /// way at each of a bounded number of tries, or another call removed or changed the found pair first.
+    /// never out of memory. If another call removes or changes the found pair first, the call searches again. Doesn't wait:
+    /// returns [`Busy`], with no pair changed, if writers locked or changed nodes on the way at each of a bounded number of
+    /// tries, or after a thousand searches.
     ///
     /// ```
     /// # fn main() -> Result<(), Box<dyn std::error::Error>> {
@@ -1177,28 +1221,48 @@ impl LiveGuard {
     /// # }
     /// ```
     pub fn try_pop_last(&self) -> Result<Option<(u64, u64)>, Busy> {
-        self.try_take(self.try_last()?)
+        self.try_pop_last_from(0)
     }
 
-    // Removes the pair that the search finds, if no other call changes or removes it first. Otherwise searches again.
-    fn pop(&self, found: impl Fn(&LiveGuard) -> Option<(u64, u64)>) -> Option<(u64, u64)> {
-        loop {
-            let (key, value) = found(self)?;
-            if self.compare_remove(key, value).is_ok() {
-                return Some((key, value));
-            }
-        }
+    /// Removes the pair with the greatest key, if that key is at least `key`, and returns the pair, or `None` if the call
+    /// found no such pair. Each pair goes to one caller. The pair was found by [`last`](LiveGuard::last): no greater key
+    /// was present throughout the call. A greater key that another call inserts meanwhile stays. With `None` no key that is
+    /// at least `key` was present throughout the call. A pop is never out of memory. While writers lock or change nodes on
+    /// the way, the call yields and tries again. If another call removes or changes the found pair first, the call searches
+    /// again.
+    ///
+    /// ```
+    /// # fn main() -> Result<(), Box<dyn std::error::Error>> {
+    /// let guard = proved_congee::LiveMap::new()?.pin()?;
+    /// guard.extend([(5, 50), (7, 70), (9, 90)])?;
+    /// assert_eq!((guard.pop_last_from(8), guard.pop_last_from(8)), (Some((9, 90)), None));
+    /// # Ok(())
+    /// # }
+    /// ```
+    pub fn pop_last_from(&self, key: u64) -> Option<(u64, u64)> {
+        waiting(|| self.try_pop_last_from(key))
     }
 
-    // Removes the pair that was found, unless another call changed or removed it first.
-    fn try_take(&self, found: Option<(u64, u64)>) -> Result<Option<(u64, u64)>, Busy> {
-        match found {
-            Some((key, value)) => match self.try_compare_remove(key, value)? {
-                Ok(()) => Ok(found),
-                Err(_) => Err(Busy),
-            },
-            None => Ok(None),
-        }
+    /// Removes the pair with the greatest key, if that key is at least `key`, and returns the pair, or `None` if the call
+    /// found no such pair. Each pair goes to one caller. The pair was found by [`last`](LiveGuard::last): no greater key
+    /// was present throughout the call. A greater key that another call inserts meanwhile stays. With `None` no key that is
+    /// at least `key` was present throughout the call. A pop is never out of memory. If another call removes or changes the
+    /// found pair first, the call searches again. Doesn't wait: returns [`Busy`], with no pair changed, if writers locked
+    /// or changed nodes on the way at each of a bounded number of tries, or after a thousand searches.
+    ///
+    /// ```
+    /// # fn main() -> Result<(), Box<dyn std::error::Error>> {
+    /// let guard = proved_congee::LiveMap::new()?.pin()?;
+    /// guard.extend([(5, 50), (7, 70), (9, 90)])?;
+    /// assert_eq!(guard.try_pop_last_from(8)?, Some((9, 90)));
+    /// assert_eq!(guard.try_pop_last_from(8)?, None);
+    /// # Ok(())
+    /// # }
+    /// ```
+    pub fn try_pop_last_from(&self, key: u64) -> Result<Option<(u64, u64)>, Busy> {
+        let mut pair = Pair::default();
+        let code = unsafe { congee_c_live_pop_last_from(&mut self.handle(), key, &mut pair) };
+        unless_busy(code, |code| (code == 1).then(|| pair.into()))
     }
 
     /// Writes the first pairs with `start <= key < end` to the buffer, keys ascending, and returns how many pairs fit.

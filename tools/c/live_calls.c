@@ -317,6 +317,28 @@ static void insert_all(struct congee_live *map) {
     need(congee_live_insert_many(map, pairs, 0) == 0, "no pairs");
 }
 
+/* Pops from both ends with a bound beside each pair, by both forms, until no pair is left. */
+static void call_bounded_pops(struct congee_live *map) {
+    insert_all(map);
+    for (size_t first = 0, last = THERE; first < last; first++, last--) {
+        struct congee_pair pair = {1, 2}, *at = first == 1 ? NULL : &pair;
+        if (there[first] > 0)
+            need(congee_live_pop_first_to(map, there[first] - 1, &pair) == CONGEE_ABSENT, "no pair up to a key");
+        need(is_there(pair, THERE), "the place of no pair up to a key");
+        need(congee_live_try_pop_first_to(map, there[first], at) == CONGEE_PRESENT, "a pop up to a key");
+        need(is_there(pair, at ? first : THERE), "the pair of a pop up to a key");
+        if (first + 1 == last)
+            break;
+        pair = (struct congee_pair){1, 2};
+        if (there[last - 1] < UINT64_MAX)
+            need(congee_live_try_pop_last_from(map, there[last - 1] + 1, &pair) == CONGEE_ABSENT, "no pair from a key on");
+        need(is_there(pair, THERE), "the place of no pair from a key on");
+        need(congee_live_pop_last_from(map, there[last - 1], &pair) == CONGEE_PRESENT, "a pop from a key on");
+        need(is_there(pair, last - 1), "the pair of a pop from a key on");
+    }
+    call_counts(map, 0);
+}
+
 /* Pops from both ends in turn, by both forms, with a place or with none, until no pair is left. */
 static void call_pops(struct congee_live *map) {
     size_t first = 0, last = THERE;
@@ -478,6 +500,7 @@ static void call_several(void) {
     struct congee_live *map;
     need(congee_live_new(&map) == CONGEE_DONE, "a map");
     call_pops(map);
+    call_bounded_pops(map);
     call_loops(map);
     for (int i = 0; i < 4; i++)
         call_computes(map, i / 2, i % 2);

@@ -10,7 +10,7 @@ THEOREMS = {
     "calls": ("face_runs.specs.Calls.AreLegalReplies",),
     "linearizable": ("spec_olc.specs.Linearizable.IsLinearizable",),
     "guards": ("calls of share_faces",),
-    "live": ("calls of live_faces", "exports of congee_live_c", "congee_live_c.specs.Holding.Holding"),
+    "live": ("calls of live_faces", "calls of live_payloads", "exports of congee_live_c", "congee_live_c.specs.Holding.Holding"),
 }
 
 WORD = re.compile(r"[^\s(){};,\[\]λ]+")

@@ -151,6 +151,8 @@ ROWS = (
     row("below", {"": "below", "Map": "-"}),
     row("pop_first"),
     row("pop_last"),
+    row("pop_first_to"),
+    row("pop_last_from"),
     row("range", "-", "read_range"),
     row("range_inclusive", "-", "read_range_inclusive"),
     row("range_descending", "-", "read_range_descending"),
@@ -193,7 +195,7 @@ PLAIN = ("constructor", "copy constructor")
 
 # Why a call is missing: rows (by their first name), languages and forms, each `*` for all, and the word. The first that fits counts.
 CHANGES = """new new_with_limit insert remove get_or_insert insert_absent get_or_insert_with add compute compare_exchange compare_remove pop_first
-    pop_last insert_many remove_range_inclusive retain clear shrink_to_fit"""
+    pop_last pop_first_to pop_last_from insert_many remove_range_inclusive retain clear shrink_to_fit"""
 WHY = (
     ("freeze", "C Rust", "Frozen", "frozen"),
     ("freeze", "C++", "Map", "native"),
@@ -225,7 +227,12 @@ WHY = (
     ("insert_many remove_range_inclusive clear", "Rattle", "Sharded Live", "loop"),
     ("retain", "C C++", "*", "loop"),
     ("retain", "Rattle", "Sharded Live", "loop"),
-    ("range_descending pop_first pop_last", "Rattle", "Live", "loop"),
+    ("range_descending", "Rattle", "Live", "loop"),
+    ("pop_first_to", "C++", "Map", "`begin`"),
+    ("pop_last_from", "C++", "Map", "iterators"),
+    ("pop_first_to pop_last_from", "C++", "Live", "native"),
+    ("pop_first_to", "*", "*", "`first`"),
+    ("pop_last_from", "*", "*", "`last`"),
     ("shrink_to_fit", "C++", "Map", "native"),
     ("shrink_to_fit", "*", "Shared Sharded", "by removals"),
     ("shrink_to_fit", "*", "Live", "segments"),
@@ -262,6 +269,7 @@ WAITING = {
     "never busy": "the call waits for nobody",
     "closure": "the call makes several calls, and calls your function in between",
     "many pairs": "a call that gives up may have changed some pairs, or read a part",
+    "none": "the form lacks the call",
 }
 # Why a call for threads has no form with `try_`, as above.
 WHY_WAITS = (
@@ -375,7 +383,7 @@ def table():
     found += [f"- *{word}*: {meaning}\n" for word, meaning in WORDS.items()]
     found.append("\nThese calls also have a form with `try_` before the name, which doesn't wait:\n\n")
     rows = [(f"`{id_of(it)}`", *(tries_of(it, form) for form in THREADS)) for it in ROWS]
-    found += lines(("Call", *THREADS), grouped([it for it in rows if any(it[1:])]))
+    found += lines(("Call", *THREADS), grouped([[cell or "none" for cell in it] for it in rows if any(it[1:])]))
     found.append("\n")
     found += [f"- *{word}*: {meaning}\n" for word, meaning in WAITING.items()]
     found.append(f"\nThe typed maps of Rust (`keyed`) lack {', '.join(f'`{it}`' for it in UNTYPED)},\n")

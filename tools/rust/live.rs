@@ -136,6 +136,20 @@ fn end(guard: &LiveGuard, plain: &mut Plain, at: u64, seed: &mut u64) {
                 plain.remove(&key);
             }
         }
+        it if it % 8 == 6 => {
+            let key = plain.range(..=at).next().map(|(key, _)| *key);
+            assert_eq!(
+                guard.pop_first_to(at),
+                key.and_then(|key| plain.remove_entry(&key))
+            );
+        }
+        it if it % 8 == 7 => {
+            let key = plain.range(at..).next_back().map(|(key, _)| *key);
+            assert_eq!(
+                guard.pop_last_from(at),
+                key.and_then(|key| plain.remove_entry(&key))
+            );
+        }
         it if it % 4 == 0 => assert_eq!(guard.pop_first(), plain.pop_first()),
         it if it % 4 == 1 => assert_eq!(guard.pop_last(), plain.pop_last()),
         it if it % 4 == 2 => assert_eq!(guard.try_pop_first(), Ok(plain.pop_first())),

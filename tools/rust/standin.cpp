@@ -208,6 +208,14 @@ int pop_last(Pairs &p, congee_pair *out) {
     return code;
 }
 
+int pop_first_to(Pairs &p, uint64_t key, congee_pair *out) {
+    return p.empty() || p.begin()->first > key ? 0 : pop_first(p, out);
+}
+
+int pop_last_from(Pairs &p, uint64_t key, congee_pair *out) {
+    return p.empty() || p.rbegin()->first < key ? 0 : pop_last(p, out);
+}
+
 uint64_t remove_range(Pairs &p, uint64_t start, uint64_t last) {
     uint64_t n = p.size();
     if (start <= last)
@@ -380,6 +388,8 @@ int32_t congee_c_shared_range_descending(congee_const_shared_handle *h, ENDS, OU
 }
 int32_t congee_c_shared_pop_first(congee_shared_handle *h, AT) { SHARED(h, pop_first(p, out)) }
 int32_t congee_c_shared_pop_last(congee_shared_handle *h, AT) { SHARED(h, pop_last(p, out)) }
+int32_t congee_c_live_pop_first_to(congee_live_handle *h, TWO(KEY, AT)) { SHARED(h, pop_first_to(p, key, out)) }
+int32_t congee_c_live_pop_last_from(congee_live_handle *h, TWO(KEY, AT)) { SHARED(h, pop_last_from(p, key, out)) }
 int32_t congee_c_shared_clear(congee_shared_handle *h) { SHARED(h, (p.clear(), 0)) }
 int32_t congee_c_shared_is_empty(congee_const_shared_handle *h, OUT) { SHARED(h, (*out = p.empty(), 0)) }
 int32_t congee_c_shared_usage(congee_const_shared_handle *h, uint64_t *bytes, uint64_t *limit) {

@@ -7,7 +7,7 @@
 //! An answer is an `i32`: 0, 1 or 2 with the meaning that each call documents, `OOM` or `BUSY`.
 //!
 //! Here are the calls that make a map and its handles, its limit, and those that get, set and remove one key. `computed`,
-//! `meetings`, `next_pair` and `ranges` have the others.
+//! `counts`, `meetings`, `next_pair`, `pair_before`, `pops` and `ranges` have the others.
 //!
 //! Tested in `tools/c-library`.
 #![tactic(auto)]
@@ -28,6 +28,7 @@ mod meetings;
 mod next_pair;
 mod pair_before;
 mod parts;
+mod pops;
 mod ranges;
 mod room;
 

@@ -7,10 +7,10 @@ pub use Rattle.node_base.specs.Form
 pub use Rattle.node_base.specs.NodeView
 pub use Rattle.node_base.specs.Rest
 pub use Rattle.node_table.specs.Charge
-pub use Rattle.node_table.specs.Key
+pub use Rattle.spec_node.specs.Key
 pub use Rattle.node_table.specs.Shape
 pub use Rattle.node_table.specs.Table
-pub use Rattle.node_table.specs.TableNode
+pub use Rattle.spec_node.specs.TableNode
 pub use Rattle.node_stats.specs.Fractions
 pub use Rattle.node_stats.specs.LevelCounts
 pub use Rattle.node_stats.specs.Stats

@@ -1,9 +1,9 @@
 //! The machine, and what it takes and returns.
 
-pub use node_table::child::{Child, ChildRef};
 pub use olc_machine::machine;
 pub use olc_machine::machine::Machine;
 pub use olc_replay::replay;
+pub use spec_node::child::{Child, ChildRef};
 pub use spec_olc::payload::HasMeaning;
 pub use spec_olc::trace::{Decision, Line, Trace};
 pub use spec_olc::types::{

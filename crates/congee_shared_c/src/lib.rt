@@ -80,8 +80,8 @@ pub extern "C" fn congee_c_shared_new(alloc: Global, limit: u64, out: &mut Room)
     0
 }
 
-/// The same of a map in 64 shards, each under a lock of its own, for many threads. Keys that differ in their last eight
-/// bits alone are of one shard. Each shard has a 64th of the limit, rounded down, and its first node is charged to it.
+/// Writes the first handle of a new, empty map in 64 shards, a lock each, to `out` and answers 0, or answers `OOM` and writes
+/// nothing. Keys that differ in their last byte alone share one. Each has a 64th of the limit, rounded down, for all its nodes.
 #[unsafe(no_mangle)]
 pub extern "C" fn congee_c_shared_new_sharded(alloc: Global, limit: u64, out: &mut Room) -> i32
     requires { out.old.held ≡ None }

@@ -43,7 +43,8 @@ pub extern "C" fn congee_c_shared_range(
     }
 }
 
-/// The same with keys from `start` to `last`, both included.
+/// Writes the first pairs with keys from `start` to `last`, both included, keys ascending, as many as there are or as fit,
+/// and to `out` how many. The rest of the buffer stays. Answers 0 or `BUSY`. Takes no memory.
 #[unsafe(no_mangle)]
 pub extern "C" fn congee_c_shared_range_inclusive(
     handle: &mut Handle,
@@ -71,7 +72,8 @@ pub extern "C" fn congee_c_shared_range_inclusive(
     }
 }
 
-/// The same with keys descending: the last pairs of those, as many as there are or as fit.
+/// Writes the last pairs with keys from `start` to `last`, both included, keys descending, as many as there are or as fit,
+/// and to `out` how many. The rest of the buffer stays. Answers 0 or `BUSY`. Takes no memory.
 #[unsafe(no_mangle)]
 pub extern "C" fn congee_c_shared_range_descending(
     handle: &mut Handle,

@@ -4,8 +4,8 @@ use Rattle.node_base.specs.Form.{stated_size}
 use Rattle.node_base.specs.declared.base_node.NodeType.{NodeType}
 use Rattle.node_base.specs.declared.base_node.NodeType.TheVariants.{N4, N16, N48, N256}
 use Rattle.node_table.specs.Table.{NodeTable, node_info, pairs_of, pairs_at, nodes_of, nodes_at, AreChildren, IsTree}
-use Rattle.node_table.specs.TableNode.{Child}
-use Rattle.node_table.specs.declared.child.Child.TheVariants.{Payload, Node}
+use Rattle.spec_node.specs.TableNode.{Child}
+use Rattle.spec_node.specs.declared.child.Child.TheVariants.{Payload, Node}
 use Rattle.spec_map.specs.Map.{Pairs}
 use Rattle.tree_path.specs.Charge.{charge_of}
 use Rattle.tree_path.specs.inner.Root.{depth}

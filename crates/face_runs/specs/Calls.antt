@@ -73,7 +73,7 @@ module _ {K V : Type 0} where
     pub are : AreOperations calls answers operations
     pub legal : IsLegalRead c nat_eq r m operations n
 
-  -- The same with their replies.
+  -- The calls with their replies are a legal run from the one map to the other.
   abbrev pub AreLegalReplies : Conversion K V ℕ → MayRunOut
       → Pairs ℕ → List (FaceCall K V) → List (Reply K V) → Pairs ℕ → Type 0
   AreLegalReplies c r m calls replies n = AreLegalAnswers c r m calls (map answer_of replies) n

@@ -5,7 +5,7 @@ use Rattle.share_rule.specs.History.{entries_of, IsHistory}
 use Rattle.live_nodes.specs.Seats.{Place, SeatView, IsIn}
 use Rattle.live_law.specs.Levels.{up, Spot}
 use Rattle.live_law.specs.Views.{View}
-use Rattle.live_reads.specs.Ways.{Keeps}
+use Rattle.live_reads.specs.Paths.{Keeps}
 use Rattle.live_growth.specs.Holds.{Alike}
 use Rattle.live_scans.specs.inner.Moments.{SeesMore}
 use Rattle.live_copies.specs.inner.Whole.{HasWhole}

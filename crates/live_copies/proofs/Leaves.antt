@@ -1,7 +1,7 @@
 -- The leaf that was locked last, and its pairs.
 use Rattle.std.proofs.Common.{◌≡◌, ℕ, ◌+◌, ◌-◌, ◌*◌, ◌/◌, ◌%◌, ◌<◌, ◌^◌, List, ◌++◌, length, take, drop, Some, refl, sym, ap, ◌∙◌, subst, inl, arith}
 use Rattle.std.proofs.lemmas.List.{map-id}
-use Rattle.node_table.specs.TableNode.{TableNode}
+use Rattle.spec_node.specs.TableNode.{TableNode}
 use Rattle.spec_map.specs.Map.{Pairs, Rises}
 use Rattle.word_book.specs.Book.{Book, Name}
 use Rattle.live_nodes.specs.Seats.{Hold, hold, SeatView, IsIn}

@@ -6,7 +6,7 @@ use Rattle.live_nodes.specs.Rows.{AreOf}
 use Rattle.live_law.specs.Levels.{Spot, place_at}
 use Rattle.live_law.specs.Views.{View, Own, locked, rest_of}
 use Rattle.live_law.specs.Tree.{IsApart}
-use Rattle.live_reads.specs.Ways.{AreNamed, Keeps}
+use Rattle.live_reads.specs.Paths.{AreNamed, Keeps}
 use Rattle.live_growth.specs.Holds.{Alike, HasLocked}
 use Rattle.live_growth.proofs.Again.{Beside}
 use Rattle.live_copies.specs.declared.locks.Lock.{Lock}

@@ -6,7 +6,7 @@ use Rattle.std.proofs.lemmas.Nat.{pow-add}
 use Rattle.spec_map.specs.Map.{Pairs, lookup, Rises}
 use Rattle.spec_map.proofs.MapLaws.{lookup-below}
 use Rattle.spec_map.proofs.JoinLaws.{lookup-above}
-use Rattle.live_law.specs.Levels.{up, digit, Shape, Covers, way}
+use Rattle.live_law.specs.Levels.{up, digit, Shape, Covers, bytes_above}
 use Rattle.live_law.proofs.Plans.{joined}
 use Rattle.live_scans.proofs.Uppers.{up-filled}
 use Rattle.live_copies.specs.inner.Told.{first_of, end_of}
@@ -80,7 +80,7 @@ under_byte h t b k is byte =
     (r.0, omega (arith, next, r))
 
 -- A node that is below that byte
-pub child_between : (e : Shape) (h t b : ℕ) → e.height ≤ h → way e h ≡ 256 * t + b → (start_of h t b ≤ first_of e) × (end_of e ≤ start_of h t (b + 1))
+pub child_between : (e : Shape) (h t b : ℕ) → e.height ≤ h → bytes_above e h ≡ 256 * t + b → (start_of h t b ≤ first_of e) × (end_of e ≤ start_of h t (b + 1))
 child_between e h t b low is =
     let d : ℕ = h - e.height in
     let x : ℕ = 256 * t + b in

@@ -2,8 +2,8 @@
 use Rattle.std.proofs.Common.{◌≡◌, ℕ, zero, suc, ◌+◌, ◌-◌, ◌*◌, ◌/◌, ◌%◌, ◌^◌, ◌<◌, ◌≤◌, nat_eq, List, [], ◌∷◌, ◌++◌, length, slice_index, slice_set, length-set, Option, Some, None, refl, sym, ap, ◌∙◌, subst, inl, inr, arith}
 use Rattle.std.proofs.lemmas.Bool.{cases_lt, cases_eq, eq-eqb, ne_eqb}
 use Rattle.std.proofs.lemmas.List.{get_or-set_same, get_or-set_other}
-use Rattle.node_table.specs.TableNode.{TableNode, Child, MayHave}
-use Rattle.node_table.specs.declared.child.Child.TheVariants.{Payload, Node}
+use Rattle.spec_node.specs.TableNode.{TableNode, Child, MayHave}
+use Rattle.spec_node.specs.declared.child.Child.TheVariants.{Payload, Node}
 use Rattle.spec_map.specs.Map.{Pairs, lookup, Rises}
 use Rattle.spec_map.proofs.MapLaws.{Rises-wider, same_from_lookups}
 use Rattle.spec_map.proofs.JoinLaws.{Rises-append, lookup-above, lookup-append_left, lookup-append_right}
@@ -11,9 +11,9 @@ use Rattle.share_rule.specs.History.{IsHistory}
 use Rattle.live_nodes.specs.Nodes.{Content}
 use Rattle.live_nodes.specs.Seats.{IsIn}
 use Rattle.live_layout.specs.Encodes.{Encodes, AreOfKind, IsBelow, IsWord, payload_of}
-use Rattle.live_law.specs.Levels.{up, digit, Shape, name_of, Covers, way, Spot}
+use Rattle.live_law.specs.Levels.{up, digit, Shape, name_of, Covers, bytes_above, Spot}
 use Rattle.live_law.specs.Views.{Own, locked, View}
-use Rattle.live_law.proofs.Plans.{joined, way-key, root-top}
+use Rattle.live_law.proofs.Plans.{joined, bytes_above-key, root-top}
 use Rattle.live_copies.specs.inner.Told.{TellsBelow, TellsUnder, TellsNoted, IsNoted, IsContent, Tells, first_of, end_of, HasPairs}
 use Rattle.live_copies.specs.inner.Noted.{start_of, HasNoted}
 use Rattle.live_copies.specs.inner.Whole.{HasWhole}
@@ -21,15 +21,15 @@ use Rattle.live_copies.proofs.Spans.{covered, none_outside, start_first, start_e
 
 -- A CHILD'S KEYS are keys of the node above, with one byte
 module _ (e a : Shape) (h key b : ℕ) (high : a.height ≡ suc h) (lower : e.height < a.height) (above : Covers a key) (byte_is : digit a.height key ≡ b) (covers : Covers e key) where
-  pub child_way : way e h ≡ 256 * a.top + b
-  child_way =
+  pub child_bytes_above : bytes_above e h ≡ 256 * a.top + b
+  child_bytes_above =
       let low : e.height ≤ h = omega (arith, lower, high) in
       let is : up (suc h) key ≡ a.top = ap (λ (z : ℕ). up z key) (sym high) ∙ above in
       let byte : digit (suc h) key ≡ b = ap (λ (z : ℕ). digit z key) (sym high) ∙ byte_is in
-      way-key e h key covers low ∙ (sym (joined h key a.top is) ∙ ap (λ (z : ℕ). 256 * a.top + z) byte)
+      bytes_above-key e h key covers low ∙ (sym (joined h key a.top is) ∙ ap (λ (z : ℕ). 256 * a.top + z) byte)
 
   child_up : (k : ℕ) → Covers e k → up h k ≡ up h key
-  child_up k inside = let low : e.height ≤ h = omega (arith, lower, high) in sym (way-key e h k inside low) ∙ way-key e h key covers low
+  child_up k inside = let low : e.height ≤ h = omega (arith, lower, high) in sym (bytes_above-key e h k inside low) ∙ bytes_above-key e h key covers low
 
   pub child_above : (k : ℕ) → Covers e k → Covers a k
   child_above k inside = ap (λ (z : ℕ). up z k) high ∙ (ap (λ (z : ℕ). z / 256) (child_up k inside) ∙ (ap (λ (z : ℕ). up z key) (sym high) ∙ above))
@@ -210,7 +210,7 @@ module _ (own own' : List Own) (more : (o : Own) → IsIn o own → IsIn o own')
   -- or there is one under the next byte, whose pairs come next.
   module _ (below : b < 256) (e : Spot) (s : Pairs ℕ) (pairs : HasPairs own' e s) (key : ℕ) (lower : e.shape.height < a.shape.height) (above : Covers a.shape key) (byte_is : digit a.shape.height key ≡ b) (covers : Covers e.shape key) where
     between : (start_of n.level a.shape.top b ≤ first_of e.shape) × (end_of e.shape ≤ start_of n.level a.shape.top (b + 1))
-    between = let high = n.high in child_between e.shape n.level a.shape.top b (omega (arith, lower, high)) (child_way e.shape a.shape n.level key b n.high lower above byte_is covers)
+    between = let high = n.high in child_between e.shape n.level a.shape.top b (omega (arith, lower, high)) (child_bytes_above e.shape a.shape n.level key b n.high lower above byte_is covers)
 
     rise_then : Rises (start_of n.level a.shape.top b) (start_of n.level a.shape.top (b + 1)) s
     rise_then = Rises-wider (first_of e.shape) (end_of e.shape) (start_of n.level a.shape.top b) (start_of n.level a.shape.top (b + 1)) s between.0 between.1 pairs.rises

@@ -8,7 +8,7 @@ use Rattle.live_nodes.specs.Seats.{SeatView, IsIn}
 use Rattle.live_layout.specs.Encodes.{Encodes}
 use Rattle.live_law.specs.Levels.{up, digit, place_at}
 use Rattle.live_law.specs.Views.{View, Own, locked}
-use Rattle.live_reads.specs.Ways.{Names, Keeps}
+use Rattle.live_reads.specs.Paths.{Names, Keeps}
 use Rattle.live_copies.specs.declared.children.Child.{Child}
 use Rattle.live_copies.specs.declared.locks.Lock.{Lock}
 use Rattle.live_copies.specs.inner.Noted.{HasNoted, HasNamed}
@@ -56,7 +56,7 @@ noted_then own v w more key height from table m s c child low few n t =
 pub copied_then : (old old' new m s : Pairs ℕ) → old' ≡ old ++ m → new ≡ old' ++ s → new ≡ old ++ (m ++ s)
 copied_then old old' new m s first then = then ∙ (ap (λ (z : Pairs ℕ). z ++ s) first ∙ append_assoc old m s)
 
--- THE WAY goes on
+-- THE PATH goes on
 pub names_grown : (v w : Seen) (name key height : ℕ) → Grows v w → Names v name key height → Names w name key height
 names_grown v w name key height g n = record {
   spot = n.spot;

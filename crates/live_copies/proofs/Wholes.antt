@@ -1,12 +1,12 @@
--- At the check of the trunk a seat learns the whole history, and what the map has then.
+-- At the check of the root word a seat learns the whole history, and what the map has then.
 use Rattle.std.proofs.Common.{◌≡◌, ◌≢◌, ℕ, zero, suc, ◌+◌, ◌-◌, ◌*◌, ◌/◌, ◌<◌, ◌≤◌, ◌^◌, List, [], ◌∷◌, Option, Some, None, refl, sym, ap, ◌∙◌, subst, inl, inr, arith}
 use Rattle.std.proofs.lemmas.Bool.{cases_lt}
 use mathlib.Core.Option.{some}
 use mathlib.Core.Logic.{dite}
 use native.Mathlib.Decide.{ℕ_discrete}
 use lib.ListN.{get_elem?}
-use Rattle.node_table.specs.TableNode.{Child}
-use Rattle.node_table.specs.declared.child.Child.TheVariants.{Payload, Node as Below}
+use Rattle.spec_node.specs.TableNode.{Child}
+use Rattle.spec_node.specs.declared.child.Child.TheVariants.{Payload, Node as Below}
 use Rattle.spec_map.specs.Map.{Pairs, lookup, Rises}
 use Rattle.spec_map.proofs.MapLaws.{lookup-first, lookup-next}
 use Rattle.share_rule.specs.inner.Rule.{HasSeen}
@@ -24,8 +24,8 @@ use Rattle.live_law.specs.Tree.{IsMap, IsCurrent, IsUnder, IsSpot, IsOwn, IsLock
 use Rattle.live_law.proofs.Histories.{sees_all}
 use Rattle.live_law.proofs.Looks.{with_view, at_leaf, at_inner}
 use Rattle.live_law.proofs.Plans.{at_home, digit-low, joined, missed, none_there, same_name}
-use Rattle.live_reads.specs.Ways.{KnowsTrunk, Keeps}
-use Rattle.live_reads.proofs.Views.{head_read, learned_keeps, reading, reading_keeps, trunk_taken}
+use Rattle.live_reads.specs.Paths.{KnowsRootWord, Keeps}
+use Rattle.live_reads.proofs.Views.{head_read, learned_keeps, reading, reading_keeps, root_word_taken}
 use Rattle.live_updates.proofs.Rising.{history_ascends}
 use Rattle.live_copies.specs.inner.Told.{TellsUnder, Tells}
 use Rattle.live_copies.specs.inner.Whole.{HasWhole, LearnsWhole}
@@ -110,14 +110,14 @@ module _ (ns : List Node) (vs : List View) (p : IsMap ns vs) where
     told_same zero a m t k covers = absurd t
     told_same (suc n) a m t k covers =
         let l = is_locked a t.content t.held in
-        let c : IsCurrent p.plan p.pairs a.shape t.content = subst (λ (z : Shape × Content). IsCurrent p.plan p.pairs z.0 z.1) (λ i. (l.shaped i, l.content i)) (p.tree.current a.number l.met.spot.below_trunk (ap (home_of p.plan) l.shaped ∙ l.current)) in
+        let c : IsCurrent p.plan p.pairs a.shape t.content = subst (λ (z : Shape × Content). IsCurrent p.plan p.pairs z.0 z.1) (λ i. (l.shaped i, l.content i)) (p.tree.current a.number l.met.spot.below_root_word (ap (home_of p.plan) l.shaped ∙ l.current)) in
         let deep = c.deep in
         let b : ℕ = digit a.shape.height k in
         let low = digit-low a.shape.height k in
         by_kind n m k (λ e u cv. told_same n e m u k cv) a a.shape.height refl (omega (arith, deep)) covers (lookup c.its.children b) (c.under b low) (t.under c.its record { encodes = c.encodes; in_form = c.in_form; deep = c.deep } b low)
 
-pub trunk_whole : (caller id : ℕ) → caller ≡ id → (v : View) (k word : ℕ) (saw : List (ℕ × ℕ)) (others : List Read) → acts.Learns IsMap id v k word saw others (LearnsWhole caller v k word saw)
-trunk_whole caller id by v k word saw others ns vs p seat low is free agree fits =
+pub root_word_whole : (caller id : ℕ) → caller ≡ id → (v : View) (k word : ℕ) (saw : List (ℕ × ℕ)) (others : List Read) → acts.Learns IsMap id v k word saw others (LearnsWhole caller v k word saw)
+root_word_whole caller id by v k word saw others ns vs p seat low is free agree fits =
     let x = p.each_view id v seat in
     let w : View = view_of p.history v.met v.own in (
       [],
@@ -136,17 +136,17 @@ trunk_whole caller id by v k word saw others ns vs p seat low is free agree fits
       ),
     )
 
--- A LOOK AT THE TRUNK
-module _ (v : Seen) (known : KnowsTrunk v) (k : ℕ) (at_k : 1 ≡ k) (v₁ : Seen) (n : ℕ) (took_it : Takes (reads k) v n none_joined v₁) (caller : ℕ) where
+-- A LOOK AT THE ROOT WORD
+module _ (v : Seen) (known : KnowsRootWord v) (k : ℕ) (at_k : 1 ≡ k) (v₁ : Seen) (n : ℕ) (took_it : Takes (reads k) v n none_joined v₁) (caller : ℕ) where
   taken : v₁ ≡ reading v 0 n []
-  taken = trunk_taken v known k at_k v₁ n took_it
+  taken = root_word_taken v known k at_k v₁ n took_it
 
   pub taken_keeps : Keeps v v₁ × (v₁.client ≡ v.client)
   taken_keeps = reading_keeps v v₁ 0 n [] taken
 
   pub may_whole : (id : ℕ) → caller ≡ id → MayCheck v₁ k IsMap id (LearnsWhole caller) n
   may_whole id by = subst (λ (z : Seen). MayCheck z k IsMap id (LearnsWhole caller) n) (sym taken)
-      (place 0 1 1, read 0 n [], (known, at_k), head_read 0 n [] v.reads, refl, trunk_whole caller id by v.client 0 n [] (read 0 n [] ∷ v.reads))
+      (place 0 1 1, read 0 n [], (known, at_k), head_read 0 n [] v.reads, refl, root_word_whole caller id by v.client 0 n [] (read 0 n [] ∷ v.reads))
 
   module _ (w : Seen) (m : ℕ) (told : Checks (LearnsWhole caller) (reads k) v₁ m none_joined w) where
     checked : plays.Checked (LearnsWhole caller v.client 0 n []) n (reading v 0 n []) m w

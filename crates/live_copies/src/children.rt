@@ -1,14 +1,14 @@
 //! The children of a node, as a reader finds them.
 ghost use Rattle.std.specs.Prelude.{◌≡◌, ◌<◌, ◌≤◌, IfSome};
 ghost use Rattle.live_law.specs.Levels.{up, digit};
-ghost use Rattle.live_reads.specs.Ways.{Names, Sights, Keeps};
+ghost use Rattle.live_reads.specs.Paths.{Names, Sights, Keeps};
 ghost use Rattle.live_copies.specs.inner.Children.{IsChild, IsFound};
 
 use live_layout::form::{form_below, slot_below};
 use live_layout::nearest::nearest;
-use live_nodes::rows::Row;
-use live_reads::sight::{Sight, enter, meet};
-use live_reads::way::{Nodes, Pass, byte_at, look, open};
+use live_nodes::rows::SharedWords;
+use live_reads::path::{Nodes, Seat, byte_at, look, open};
+use live_reads::prefix_match::{PrefixMatch, enter, meet};
 use live_scans::keys::upper;
 use std::marker::Brand;
 
@@ -39,35 +39,35 @@ fn with_byte(key: u64, height: usize, byte: u8) -> u64 {
 }
 
 // The next child from a byte on, as it seems: its byte and its word. A writer may come in between.
-fn next_byte(nodes: &Nodes, name: u64, from: u8, pass: &mut Pass) -> Option<Option<(u8, u64)>>
-    requires book { pass.old.book ≡ nodes.now }
-    requires sighted { Sights pass.old.view name }
-    ensures told { (pass.new.book ≡ pass.old.book) × (pass.new.id ≡ pass.old.id)
-        × Keeps pass.old.view pass.new.view
-        × (pass.new.view.client.seen ≡ pass.old.view.client.seen) }
+fn next_byte(nodes: &Nodes, name: u64, from: u8, seat: &mut Seat) -> Option<Option<(u8, u64)>>
+    requires book { seat.old.book ≡ nodes.now }
+    requires sighted { Sights seat.old.view name }
+    ensures told { (seat.new.book ≡ seat.old.book) × (seat.new.id ≡ seat.old.id)
+        × Keeps seat.old.view seat.new.view
+        × (seat.new.view.client.seen ≡ seat.old.view.client.seen) }
 {
-    let here = open(nodes, name, pass)?;
+    let here = open(nodes, name, seat)?;
     let form = form_below(name);
-    let row = Row { words: here.words };
-    let found = nearest(&row, form, true, from, pass);
+    let row = SharedWords { words: here.words };
+    let found = nearest(&row, form, true, from, seat);
     Some(found)
 }
 
 // A node with a key that it has, near to this one. `None` where a writer came in between.
-fn meet_some(nodes: &Nodes, name: u64, key: u64, byte: u8, pass: &mut Pass) -> Option<Child>
-    requires book { pass.old.book ≡ nodes.now }
-    requires sighted { Sights pass.old.view name }
-    ensures told { (pass.new.book ≡ pass.old.book) × (pass.new.id ≡ pass.old.id)
-        × Keeps pass.old.view pass.new.view
-        × (pass.new.view.client.seen ≡ pass.old.view.client.seen)
-        × IfSome result (λ c. Names pass.new.view c.name c.key c.height
+fn meet_some(nodes: &Nodes, name: u64, key: u64, byte: u8, seat: &mut Seat) -> Option<Child>
+    requires book { seat.old.book ≡ nodes.now }
+    requires sighted { Sights seat.old.view name }
+    ensures told { (seat.new.book ≡ seat.old.book) × (seat.new.id ≡ seat.old.id)
+        × Keeps seat.old.view seat.new.view
+        × (seat.new.view.client.seen ≡ seat.old.view.client.seen)
+        × IfSome result (λ c. Names seat.new.view c.name c.key c.height
         × (1 ≤ c.height) × (c.byte ≡ byte)) }
 {
     let mut key = key;
     for _ in 0..8 {
-        let met = meet(nodes, name, key, pass)?;
-        match met.sight {
-            Sight::Covers(height) => {
+        let met = meet(nodes, name, key, seat)?;
+        match met.prefix_match {
+            PrefixMatch::Covers(height) => {
                 return Some(Child {
                     name,
                     height,
@@ -75,24 +75,24 @@ fn meet_some(nodes: &Nodes, name: u64, key: u64, byte: u8, pass: &mut Pass) -> O
                     byte,
                 });
             }
-            Sight::Leaves(at, other) => key = with_byte(key, at, other),
+            PrefixMatch::Leaves(at, other) => key = with_byte(key, at, other),
         }
     }
     None
 }
 
 // The name of the child under a key's byte. `None` where there is none, or a writer came in between.
-fn name_under(nodes: &Nodes, name: u64, height: usize, key: u64, pass: &mut Pass) -> Option<u64>
-    requires book { pass.old.book ≡ nodes.now }
-    requires sighted { Sights pass.old.view name }
+fn name_under(nodes: &Nodes, name: u64, height: usize, key: u64, seat: &mut Seat) -> Option<u64>
+    requires book { seat.old.book ≡ nodes.now }
+    requires sighted { Sights seat.old.view name }
     requires height { (2 ≤ height) × (height ≤ 8) }
-    ensures told { (pass.new.book ≡ pass.old.book) × (pass.new.id ≡ pass.old.id)
-        × Keeps pass.old.view pass.new.view
-        × (pass.new.view.client.seen ≡ pass.old.view.client.seen)
-        × IfSome result (λ below. Sights pass.new.view below) }
+    ensures told { (seat.new.book ≡ seat.old.book) × (seat.new.id ≡ seat.old.id)
+        × Keeps seat.old.view seat.new.view
+        × (seat.new.view.client.seen ≡ seat.old.view.client.seen)
+        × IfSome result (λ below. Sights seat.new.view below) }
 {
-    let here = enter(nodes, name, height, key, pass)?;
-    match look::<Brand>(here, name, height, key, pass) {
+    let here = enter(nodes, name, height, key, seat)?;
+    match look::<Brand>(here, name, height, key, seat) {
         Some(Some(word)) => Some(slot_below(word)),
         Some(None) => None,
         None => None,
@@ -122,19 +122,19 @@ fn child_under(
     height: usize,
     key: u64,
     byte: u8,
-    pass: &mut Pass,
+    seat: &mut Seat,
 ) -> Option<Child>
-    requires book { pass.old.book ≡ nodes.now }
-    requires sighted { Sights pass.old.view name }
+    requires book { seat.old.book ≡ nodes.now }
+    requires sighted { Sights seat.old.view name }
     requires height { (2 ≤ height) × (height ≤ 8) }
-    ensures told { (pass.new.book ≡ pass.old.book) × (pass.new.id ≡ pass.old.id)
-        × Keeps pass.old.view pass.new.view
-        × (pass.new.view.client.seen ≡ pass.old.view.client.seen)
-        × IfSome result (λ c. IsChild pass.new.view key height c × (c.byte ≡ byte)) }
+    ensures told { (seat.new.book ≡ seat.old.book) × (seat.new.id ≡ seat.old.id)
+        × Keeps seat.old.view seat.new.view
+        × (seat.new.view.client.seen ≡ seat.old.view.client.seen)
+        × IfSome result (λ c. IsChild seat.new.view key height c × (c.byte ≡ byte)) }
 {
     let first = with_byte(key, height, byte);
-    let below = name_under(nodes, name, height, first, pass)?;
-    let child = meet_some(nodes, below, first, byte, pass)?;
+    let below = name_under(nodes, name, height, first, seat)?;
+    let child = meet_some(nodes, below, first, byte, seat)?;
     fitting(child, height, key, byte)
 }
 
@@ -145,20 +145,20 @@ fn try_next(
     height: usize,
     key: u64,
     from: u8,
-    pass: &mut Pass,
+    seat: &mut Seat,
 ) -> Option<Option<Child>>
-    requires book { pass.old.book ≡ nodes.now }
-    requires sighted { Sights pass.old.view name }
+    requires book { seat.old.book ≡ nodes.now }
+    requires sighted { Sights seat.old.view name }
     requires height { (2 ≤ height) × (height ≤ 8) }
-    ensures told { (pass.new.book ≡ pass.old.book) × (pass.new.id ≡ pass.old.id)
-        × Keeps pass.old.view pass.new.view
-        × (pass.new.view.client.seen ≡ pass.old.view.client.seen)
-        × IsFound pass.new.view key height from result }
+    ensures told { (seat.new.book ≡ seat.old.book) × (seat.new.id ≡ seat.old.id)
+        × Keeps seat.old.view seat.new.view
+        × (seat.new.view.client.seen ≡ seat.old.view.client.seen)
+        × IsFound seat.new.view key height from result }
 {
-    match next_byte(nodes, name, from, pass)? {
+    match next_byte(nodes, name, from, seat)? {
         None => Some(None),
         Some((byte, _)) if byte < from => None,
-        Some((byte, _)) => match child_under(nodes, name, height, key, byte, pass) {
+        Some((byte, _)) => match child_under(nodes, name, height, key, byte, seat) {
             Some(child) => Some(Some(child)),
             None => None,
         },
@@ -173,18 +173,18 @@ pub(crate) fn next_child(
     height: usize,
     key: u64,
     from: u8,
-    pass: &mut Pass,
+    seat: &mut Seat,
 ) -> Option<Option<Child>>
-    requires book { pass.old.book ≡ nodes.now }
-    requires sighted { Sights pass.old.view name }
+    requires book { seat.old.book ≡ nodes.now }
+    requires sighted { Sights seat.old.view name }
     requires height { (2 ≤ height) × (height ≤ 8) }
-    ensures told { (pass.new.book ≡ pass.old.book) × (pass.new.id ≡ pass.old.id)
-        × Keeps pass.old.view pass.new.view
-        × (pass.new.view.client.seen ≡ pass.old.view.client.seen)
-        × IsFound pass.new.view key height from result }
+    ensures told { (seat.new.book ≡ seat.old.book) × (seat.new.id ≡ seat.old.id)
+        × Keeps seat.old.view seat.new.view
+        × (seat.new.view.client.seen ≡ seat.old.view.client.seen)
+        × IsFound seat.new.view key height from result }
 {
     for _ in 0..TRIES {
-        if let Some(found) = try_next(nodes, name, height, key, from, pass) {
+        if let Some(found) = try_next(nodes, name, height, key, from, seat) {
             return Some(found);
         }
     }

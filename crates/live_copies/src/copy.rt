@@ -1,7 +1,7 @@
 //! The call. It is made by a guard of the map. It begins with an entry of its own in the history, and enters nothing more.
 ghost use Rattle.std.specs.Prelude.{◌≡◌, nat_eq, [], IfOk, OnErr};
 ghost use Rattle.share_rule.specs.History.{IsHistory};
-ghost use Rattle.live_reads.specs.Ways.{KnowsTrunk, Names, Keeps};
+ghost use Rattle.live_reads.specs.Paths.{KnowsRootWord, Names, Keeps};
 ghost use Rattle.live_scans.specs.Scans.{GaveUp};
 ghost use Rattle.live_scans.specs.inner.Moments.{SeesMore};
 ghost use Rattle.live_copies.specs.Copies.{HasCopied};
@@ -11,7 +11,7 @@ use crate::locks::{Work, unlock_all};
 use crate::walk::take;
 use crate::whole::whole;
 use live_growth::map::{Congee, Guard, Refusal};
-use live_reads::way::{Nodes, Pass};
+use live_reads::path::{Nodes, Seat};
 use live_scans::seek::start;
 use std::alloc::Global;
 use std::marker::Brand;
@@ -24,21 +24,21 @@ fn take_all<'a>(
     nodes: &'a Nodes,
     root: u64,
     work: &mut Work<'a>,
-    pass: &mut Pass,
+    seat: &mut Seat,
 ) -> Result<(), Refusal>
-    requires book { pass.old.book ≡ nodes.now }
-    requires trunk { KnowsTrunk pass.old.view }
-    requires root { Names pass.old.view root 0 8 }
-    requires locks { HasLocks pass.old.view pass.old.book work.old.locks.items }
+    requires book { seat.old.book ≡ nodes.now }
+    requires root_word { KnowsRootWord seat.old.view }
+    requires root { Names seat.old.view root 0 8 }
+    requires locks { HasLocks seat.old.view seat.old.book work.old.locks.items }
     requires none { work.old.pairs.items ≡ [] }
-    ensures told { (pass.new.book ≡ pass.old.book) × (pass.new.id ≡ pass.old.id)
-        × Knows pass.old.view pass.new.view
-        × HasLocks pass.new.view pass.new.book work.new.locks.items
-        × SeesMore pass.new.view.client.seen pass.old.id pass.old.view.client.seen
-        × IfOk result (λ _. IsHistory nat_eq pass.new.view.client.seen work.new.pairs.items) }
+    ensures told { (seat.new.book ≡ seat.old.book) × (seat.new.id ≡ seat.old.id)
+        × Knows seat.old.view seat.new.view
+        × HasLocks seat.new.view seat.new.book work.new.locks.items
+        × SeesMore seat.new.view.client.seen seat.old.id seat.old.view.client.seen
+        × IfOk result (λ _. IsHistory nat_eq seat.new.view.client.seen work.new.pairs.items) }
 {
-    take(nodes, root, 8, 0, work, pass)?;
-    if !whole::<Brand>(nodes, pass) {
+    take(nodes, root, 8, 0, work, seat)?;
+    if !whole::<Brand>(nodes, seat) {
         return Err(Refusal::Busy);
     }
     Ok(())
@@ -49,23 +49,23 @@ fn copy_once(
     nodes: &Nodes,
     root: u64,
     alloc: Global,
-    pass: &mut Pass,
+    seat: &mut Seat,
 ) -> Result<Vec<(u64, u64)>, Refusal>
-    requires book { pass.old.book ≡ nodes.now }
-    requires trunk { KnowsTrunk pass.old.view }
-    requires root { Names pass.old.view root 0 8 }
-    requires rests { (pass.old.view.client.own ≡ []) × (pass.old.view.holds ≡ []) }
-    ensures told { (pass.new.book ≡ pass.old.book) × (pass.new.id ≡ pass.old.id)
-        × Keeps pass.old.view pass.new.view
-        × SeesMore pass.new.view.client.seen pass.old.id pass.old.view.client.seen
-        × IfOk result (λ pairs. IsHistory nat_eq pass.new.view.client.seen pairs.items) }
+    requires book { seat.old.book ≡ nodes.now }
+    requires root_word { KnowsRootWord seat.old.view }
+    requires root { Names seat.old.view root 0 8 }
+    requires rests { (seat.old.view.client.own ≡ []) × (seat.old.view.holds ≡ []) }
+    ensures told { (seat.new.book ≡ seat.old.book) × (seat.new.id ≡ seat.old.id)
+        × Keeps seat.old.view seat.new.view
+        × SeesMore seat.new.view.client.seen seat.old.id seat.old.view.client.seen
+        × IfOk result (λ pairs. IsHistory nat_eq seat.new.view.client.seen pairs.items) }
 {
     let mut work = Work {
         locks: Vec::new(alloc),
         pairs: Vec::new(alloc),
     };
-    let taken = take_all(nodes, root, &mut work, pass);
-    unlock_all(&mut work.locks, pass);
+    let taken = take_all(nodes, root, &mut work, seat);
+    unlock_all(&mut work.locks, seat);
     taken?;
     Ok(work.pairs)
 }
@@ -78,11 +78,11 @@ pub fn copy(map: &Congee, alloc: Global, guard: &mut Guard) -> Result<Vec<(u64, 
     ensures copied { IfOk result (λ pairs. HasCopied guard.old pairs.items guard.new) }
     ensures refused { OnErr result (GaveUp guard.old guard.new) }
 {
-    let Some(stand) = start(&map.nodes, 0, &mut guard.pass) else {
+    let Some(position) = start(&map.nodes, 0, &mut guard.seat) else {
         return Err(Refusal::Busy);
     };
     for _ in 0..TRIES {
-        match copy_once(&map.nodes, stand.name, alloc, &mut guard.pass) {
+        match copy_once(&map.nodes, position.name, alloc, &mut guard.seat) {
             Ok(pairs) => return Ok(pairs),
             Err(Refusal::OutOfMemory) => return Err(Refusal::OutOfMemory),
             Err(Refusal::Busy) => {}

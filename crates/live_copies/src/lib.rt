@@ -12,10 +12,10 @@
 mod children;
 pub mod copy;
 mod leaf;
-mod lesson;
 mod locks;
 pub mod moves;
 mod names;
 pub mod numbers;
+mod on_check;
 mod walk;
 mod whole;

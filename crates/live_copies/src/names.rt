@@ -6,18 +6,24 @@ ghost use Rattle.live_copies.specs.inner.Noted.{HasNamed};
 
 use live_layout::form::{slot_below, words_in};
 use live_layout::search::find;
-use live_layout::words::{Draft, Drafted};
+use live_layout::words::{AsReadWords, WriteWords};
 use node_base::base_node::NodeType;
 
 // Whether the child under a byte has this name. 0 is for none.
-fn has_child<S, D: Draft<S>>(draft: &D, form: NodeType, byte: u8, name: u64, seat: &mut S) -> bool
+fn has_child<S, D: WriteWords<S>>(
+    draft: &D,
+    form: NodeType,
+    byte: u8,
+    name: u64,
+    seat: &mut S,
+) -> bool
     requires may { D.may_write draft.now seat.old }
     requires long { length (D.words draft.now seat.old) ≡ words_of form }
     ensures seat { Looks D.may_write D.words draft.now seat.old seat.new }
     ensures is { IsTrue result → HasNamed (D.words draft.now seat.old) form byte name }
 {
     let long = words_in(form);
-    let cells = Drafted { draft, long };
+    let cells = AsReadWords { draft, long };
     match find(&cells, form, byte, seat) {
         Some(word) => name != 0 && slot_below(word) == name,
         None => name == 0,
@@ -25,7 +31,7 @@ fn has_child<S, D: Draft<S>>(draft: &D, form: NodeType, byte: u8, name: u64, sea
 }
 
 /// Whether an inner node has these children and no others. 0 is for none.
-pub(crate) fn has_children<S, D: Draft<S>>(
+pub(crate) fn has_children<S, D: WriteWords<S>>(
     draft: &D,
     form: NodeType,
     names: &[u64; 256],

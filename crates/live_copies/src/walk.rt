@@ -1,7 +1,7 @@
 //! All nodes below one are locked, and then itself.
 ghost use Rattle.std.specs.Prelude.{◌≡◌, ℕ, ◌≤◌, IfOk};
 ghost use Rattle.spec_map.specs.Map.{Pairs};
-ghost use Rattle.live_reads.specs.Ways.{Names};
+ghost use Rattle.live_reads.specs.Paths.{Names};
 ghost use Rattle.live_copies.specs.inner.Noted.{HasNoted};
 ghost use Rattle.live_copies.specs.inner.Locks.{HasLocks, Grows, place_above, HasTold, Takes};
 
@@ -10,10 +10,10 @@ use crate::leaf::take_leaf;
 use crate::locks::{Work, lock_noted};
 use crate::names::has_children;
 use live_growth::map::Refusal;
-use live_law::law::{Levels, Mine};
+use live_law::law::{MapLaw, MapView};
 use live_layout::form::form_below;
-use live_nodes::rows::Held;
-use live_reads::way::{Nodes, Pass};
+use live_nodes::rows::LockedWords;
+use live_reads::path::{Nodes, Seat};
 
 // Locks a node whose children are locked, if it still has these, and no other.
 fn close<'a>(
@@ -23,23 +23,23 @@ fn close<'a>(
     key: u64,
     names: &[u64; 256],
     work: &mut Work<'a>,
-    pass: &mut Pass,
+    seat: &mut Seat,
 ) -> Result<(), Refusal>
-    requires book { pass.old.book ≡ nodes.now }
-    requires named { Names pass.old.view name key height }
+    requires book { seat.old.book ≡ nodes.now }
+    requires named { Names seat.old.view name key height }
     requires height { (2 ≤ height) × (height ≤ 8) }
-    requires locks { HasLocks pass.old.view pass.old.book work.old.locks.items }
-    ensures told { (pass.new.book ≡ pass.old.book) × (pass.new.id ≡ pass.old.id)
-        × Grows pass.old.view pass.new.view
-        × HasLocks pass.new.view pass.new.book work.new.locks.items
+    requires locks { HasLocks seat.old.view seat.old.book work.old.locks.items }
+    ensures told { (seat.new.book ≡ seat.old.book) × (seat.new.id ≡ seat.old.id)
+        × Grows seat.old.view seat.new.view
+        × HasLocks seat.new.view seat.new.book work.new.locks.items
         × (work.new.pairs ≡ work.old.pairs) }
     ensures has { IfOk result (λ _. (pairs : Pairs ℕ)
-        → HasNoted pass.old.view.client.own (place_above key height) 256 names.now pairs
-        → HasTold pass.new.view name key height pairs) }
+        → HasNoted seat.old.view.client.own (place_above key height) 256 names.now pairs
+        → HasTold seat.new.view name key height pairs) }
 {
-    let words = lock_noted(nodes, name, height, key, &mut work.locks, pass)?;
-    let held: Held<'_, Mine, Levels, 0> = Held { words };
-    if !has_children(&held, form_below(name), names, pass) {
+    let words = lock_noted(nodes, name, height, key, &mut work.locks, seat)?;
+    let held: LockedWords<'_, MapView, MapLaw, 0> = LockedWords { words };
+    if !has_children(&held, form_below(name), names, seat) {
         return Err(Refusal::Busy);
     }
     Ok(())
@@ -52,35 +52,35 @@ pub(crate) fn take<'a>(
     height: usize,
     key: u64,
     work: &mut Work<'a>,
-    pass: &mut Pass,
+    seat: &mut Seat,
 ) -> Result<(), Refusal>
-    requires book { pass.old.book ≡ nodes.now }
-    requires named { Names pass.old.view name key height }
+    requires book { seat.old.book ≡ nodes.now }
+    requires named { Names seat.old.view name key height }
     requires height { (1 ≤ height) × (height ≤ 8) }
-    requires locks { HasLocks pass.old.view pass.old.book work.old.locks.items }
-    ensures told { (pass.new.book ≡ pass.old.book) × (pass.new.id ≡ pass.old.id)
-        × Grows pass.old.view pass.new.view
-        × HasLocks pass.new.view pass.new.book work.new.locks.items
-        × IfOk result (λ _. Takes pass.new.view name key height
+    requires locks { HasLocks seat.old.view seat.old.book work.old.locks.items }
+    ensures told { (seat.new.book ≡ seat.old.book) × (seat.new.id ≡ seat.old.id)
+        × Grows seat.old.view seat.new.view
+        × HasLocks seat.new.view seat.new.book work.new.locks.items
+        × IfOk result (λ _. Takes seat.new.view name key height
         work.old.pairs.items work.new.pairs.items) }
 {
     if height < 2 {
-        return take_leaf(nodes, name, key, work, pass);
+        return take_leaf(nodes, name, key, work, seat);
     }
     let mut names = [0u64; 256];
     let mut from = 0usize;
     while from < 256 {
-        let Some(found) = next_child(nodes, name, height, key, from as u8, pass) else {
+        let Some(found) = next_child(nodes, name, height, key, from as u8, seat) else {
             return Err(Refusal::Busy);
         };
         match found {
             None => from = 256,
             Some(child) => {
-                take(nodes, child.name, child.height, child.key, work, pass)?;
+                take(nodes, child.name, child.height, child.key, work, seat)?;
                 names[child.byte as usize] = child.name;
                 from = child.byte as usize + 1;
             }
         }
     }
-    close(nodes, name, height, key, &names, work, pass)
+    close(nodes, name, height, key, &names, work, seat)
 }

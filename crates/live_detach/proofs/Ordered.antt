@@ -1,7 +1,7 @@
 -- A node's children have their bytes in order.
 use Rattle.std.proofs.Common.{ℕ, ◌+◌, ◌<◌, ◌≤◌, List, [], ◌∷◌, Option, Some, None, subst}
 use Rattle.node_base.specs.Form.{limit}
-use Rattle.node_table.specs.TableNode.{TableNode, Child}
+use Rattle.spec_node.specs.TableNode.{TableNode, Child}
 use Rattle.spec_map.specs.Map.{Rises}
 use Rattle.live_layout.specs.Encodes.{Stands, HasChildren, Encodes}
 

@@ -11,7 +11,7 @@ use Rattle.live_law.specs.Levels.{Spot}
 use Rattle.live_law.specs.Views.{View}
 use Rattle.live_growth.specs.Holds.{Alike, HasRest}
 use Rattle.live_growth.specs.Rooms.{HasGrown}
-use Rattle.live_reads.specs.declared.descend.Stand.{Stand}
+use Rattle.live_reads.specs.declared.descend.Position.{Position}
 use Rattle.live_detach.specs.Two.{HoldsTwo, LeadsTwo}
 use Rattle.live_detach.proofs.Twos.{held_on}
 
@@ -32,7 +32,7 @@ module _ (v w : Seen) (b b' : Book) (words words_above : List Name) (free free_a
     held_above = held_on v w b b' words_above free_above h.above h.content_above places same h.held_above;
   }
 
-  abbrev pub lead_on : (s : Stand) (key : ℕ) → LeadsTwo v b words words_above free free_above s key → LeadsTwo w b' words words_above free free_above s key
+  abbrev pub lead_on : (s : Position) (key : ℕ) → LeadsTwo v b words words_above free free_above s key → LeadsTwo w b' words words_above free free_above s key
   lead_on s key l = record {
     two = two_on l.two;
     named = l.named;

@@ -10,14 +10,14 @@ use Rattle.live_nodes.specs.Calls.{MayFree}
 use Rattle.live_nodes.specs.Rows.{AreOf}
 use Rattle.node_base.specs.Form.{limit}
 use Rattle.node_base.specs.declared.base_node.NodeType.{NodeType}
-use Rattle.node_table.specs.TableNode.{TableNode, Child}
+use Rattle.spec_node.specs.TableNode.{TableNode, Child}
 use Rattle.spec_map.specs.Map.{lookup}
 use Rattle.live_layout.specs.Encodes.{Encodes, IsBelow, counted, with_child}
 use Rattle.live_layout.proofs.StandLaws.{encodes-counted}
 use Rattle.live_law.specs.Levels.{digit, Spot, place_at}
 use Rattle.live_law.specs.Views.{View}
 use Rattle.live_law.specs.Tree.{IsMap}
-use Rattle.live_reads.specs.Ways.{AreNamed, Keeps}
+use Rattle.live_reads.specs.Paths.{AreNamed, Keeps}
 use Rattle.live_growth.specs.Holds.{HasLocked, HasRest}
 use Rattle.live_growth.proofs.Locks.{hold_head}
 use Rattle.live_growth.proofs.Pairs.{Pair, change_done, at_result}
@@ -37,7 +37,7 @@ none_counted form its a c same formed none n encodes is =
     none_long n.children (encodes-counted c n encodes ∙ (ap (λ k. counted (limit k) c) (is ∙ sym formed) ∙ (ap (λ z. counted (limit form) z) (sym same) ∙ none)))
 
 module _ (v : Seen) (b : Book) (words words_above : List Name) (free free_above : ℕ) (h : HoldsTwo v b words words_above free free_above) where
-  pub as_pair : Pair v b words words_above free free_above h.below h.above h.content h.content_above
+  pub as_pair : Pair v b words words_above free free_above h.below (place_at h.above) h.content h.content_above
   as_pair = record {
     holds = h.holds;
     apart = h.apart;

@@ -4,18 +4,18 @@ use mathlib.Core.Option.{some}
 use mathlib.Core.Logic.{dite}
 use native.Mathlib.Decide.{ℕ_discrete}
 use lib.ListN.{get_elem?}
-use Rattle.node_table.specs.TableNode.{TableNode, Child}
-use Rattle.node_table.specs.declared.child.Child.TheVariants.{Payload, Node as Below}
+use Rattle.spec_node.specs.TableNode.{TableNode, Child}
+use Rattle.spec_node.specs.declared.child.Child.TheVariants.{Payload, Node as Below}
 use Rattle.spec_map.specs.Map.{Pairs, lookup, without}
 use Rattle.spec_map.proofs.MapLaws.{lookup-without_same, lookup-without_other}
 use Rattle.live_nodes.proofs.Frames.{each_map, put_at, put_here, put_else}
 use Rattle.live_nodes.specs.Nodes.{Content, at, Node, node, node_at}
 use Rattle.live_nodes.specs.Acts as acts
 use Rattle.live_layout.specs.Encodes.{words_of, Encodes, IsBelow as IsChild, with_child}
-use Rattle.live_law.specs.Levels.{digit, Shape, name_of, way, Spot}
-use Rattle.live_law.specs.Views.{View, view_of, Watch, Own, locked, fresh, outgrown, trunk}
+use Rattle.live_law.specs.Levels.{digit, Shape, name_of, bytes_above, Spot}
+use Rattle.live_law.specs.Views.{View, view_of, Watch, Own, locked, detached, root_word}
 use Rattle.live_law.specs.Tree.{Plan, home_of, IsFree, LeadsTo, IsUnder, IsHouse, Skips, IsCurrent, NamesRoot, IsSpot, IsMet, IsBound, NoLater, IsWatched, IsLocked, IsOwn, AreAlive, IsTree, IsMap}
-use Rattle.live_law.proofs.Plans.{way-suc, way-own, descends, same_name, digit-low}
+use Rattle.live_law.proofs.Plans.{bytes_above-suc, bytes_above-own, descends, same_name, digit-low}
 use Rattle.live_law.proofs.Changes.{with_map, no_later, not_bound, nodes_stay, settled_stays, is_here, is_else, low_stays}
 use Rattle.live_law.proofs.Makes.{current_alike}
 use Rattle.live_law.proofs.Writes.{current_at, its_own}
@@ -34,7 +34,7 @@ one_seat i j e = cc
 -- THE PLAN, in which node x is nowhere
 module _ (d : Plan) (x : ℕ) where
   abbrev pub unlinked : Plan
-  unlinked = record { shape = d.shape; home = λ h t. cond (nat_eq (d.home h t) x) 0 (d.home h t); maker = d.maker }
+  unlinked = record { shape = d.shape; home = λ h t. cond (nat_eq (d.home h t) x) 0 (d.home h t) }
 
   gone : (h t : ℕ) → d.home h t ≡ x → unlinked.home h t ≡ 0
   gone h t e = ap (λ (b : Bool). cond b 0 (d.home h t)) (eq-eqb (d.home h t) x e)
@@ -82,8 +82,8 @@ module _ (d : Plan) (ns : List Node) (cs : ℕ → Content) (m : Pairs ℕ) (t :
   house h s e = subst (λ (z : ℕ). IsHouse d ns h s z) e (t.housed h s (subst (λ (z : ℕ). 1 ≤ z) (sym e) some_x))
 
   -- at each level down to its own
-  down : (a c : ℕ) → hx ≤ a → a ≤ c → d.home c (way sx c) ≡ x → d.home a (way sx a) ≡ x
-  down a c tall low e = descends d ns cs m t (c - a) a x some_x tall (subst (λ (z : ℕ). d.home z (way sx z) ≡ x) (let s : c ≡ c - a + a = omega (arith, low) in s) e)
+  down : (a c : ℕ) → hx ≤ a → a ≤ c → d.home c (bytes_above sx c) ≡ x → d.home a (bytes_above sx a) ≡ x
+  down a c tall low e = descends d ns cs m t (c - a) a x some_x tall (subst (λ (z : ℕ). d.home z (bytes_above sx z) ≡ x) (let s : c ≡ c - a + a = omega (arith, low) in s) e)
 
   -- Only k leads to it.
   one_above : (h s j : ℕ) → d.home h s ≡ x → d.home (suc h) (s / 256) ≡ j → (d.shape j).height ≡ suc h → j ≡ k
@@ -92,15 +92,15 @@ module _ (d : Plan) (ns : List Node) (cs : ℕ → Content) (m : Pairs ℕ) (t :
       let b = (house (suc hq) (256 * top + byte) leads).below in
       let low_a = a.0 in
       let low_b = b.0 in
-      let x_a : d.home h (way sx h) ≡ x = ap (d.home h) a.1 ∙ here in
-      let x_b : d.home (suc hq) (way sx (suc hq)) ≡ x = ap (d.home (suc hq)) b.1 ∙ leads in
-      let top_a : way sx (suc h) ≡ s / 256 = way-suc sx h low_a ∙ ap (λ (z : ℕ). z / 256) a.1 in
+      let x_a : d.home h (bytes_above sx h) ≡ x = ap (d.home h) a.1 ∙ here in
+      let x_b : d.home (suc hq) (bytes_above sx (suc hq)) ≡ x = ap (d.home (suc hq)) b.1 ∙ leads in
+      let top_a : bytes_above sx (suc h) ≡ s / 256 = bytes_above-suc sx h low_a ∙ ap (λ (z : ℕ). z / 256) a.1 in
       let cut : (256 * top + byte) / 256 ≡ top = omega (arith, byte_low) in
-      let top_b : way sx (suc (suc hq)) ≡ top = way-suc sx (suc hq) low_b ∙ (ap (λ (z : ℕ). z / 256) b.1 ∙ cut) in
-      let is_j : d.home (suc h) (way sx (suc h)) ≡ j = ap (d.home (suc h)) top_a ∙ up_j in
-      let is_k : d.home (suc (suc hq)) (way sx (suc (suc hq))) ≡ k = ap (d.home (suc (suc hq))) top_b ∙ above in
+      let top_b : bytes_above sx (suc (suc hq)) ≡ top = bytes_above-suc sx (suc hq) low_b ∙ (ap (λ (z : ℕ). z / 256) b.1 ∙ cut) in
+      let is_j : d.home (suc h) (bytes_above sx (suc h)) ≡ j = ap (d.home (suc h)) top_a ∙ up_j in
+      let is_k : d.home (suc (suc hq)) (bytes_above sx (suc (suc hq))) ≡ k = ap (d.home (suc (suc hq))) top_b ∙ above in
       dite (ℕ_discrete h (suc hq))
-      (λ same. sym is_j ∙ (ap (λ (z : ℕ). d.home (suc z) (way sx (suc z))) same ∙ is_k))
+      (λ same. sym is_j ∙ (ap (λ (z : ℕ). d.home (suc z) (bytes_above sx (suc z))) same ∙ is_k))
       (λ ne. ⊎_elim
       (λ lower.
       let x_up = down (suc h) (suc hq) (omega (arith, low_a)) (omega (arith, lower)) x_b in
@@ -123,13 +123,13 @@ module _ (d : Plan) (ns : List Node) (cs : ℕ → Content) (m : Pairs ℕ) (t :
       let lo : s % 256 < 256 = omega arith in
       dite (ℕ_discrete hx (suc h))
       (λ same.
-      let its_top : sx.top ≡ s / 256 = sym (way-own sx) ∙ (ap (way sx) same ∙ b.1) in
+      let its_top : sx.top ≡ s / 256 = sym (bytes_above-own sx) ∙ (ap (bytes_above sx) same ∙ b.1) in
       absurd (own_level h s same its_top joins lo some_node))
       (λ ne.
       let short : hx ≤ h = omega (arith, low, ne) in
       let sk : Skips d h (256 * (s / 256) + s % 256) x = subst (Skips d h (256 * (s / 256) + s % 256)) here (t.skips h (s / 256) (s % 256) lo (subst (λ (z : ℕ). 1 ≤ z) (sym here) some_x) (subst (λ (z : ℕ). (d.shape z).height ≤ h) (sym here) short)) in
       let sk' : Skips d h s x = subst (λ (z : ℕ). Skips d h z x) joins sk in
-      dite (ℕ_discrete (way sx h) s)
+      dite (ℕ_discrete (bytes_above sx h) s)
       (λ is. sk'.0 (short, is))
       (λ no. absurd (let z = sk'.1 (λ bl. no bl.1) in omega (arith, z, some_node))))
     where
@@ -148,7 +148,7 @@ module _ (d : Plan) (ns : List Node) (cs : ℕ → Content) (m : Pairs ℕ) (t :
       let low = w.below.0 in
       let some_height = w.some_height in
       let one : hx ≡ 1 = omega (arith, low, some_height) in
-      let its_top : sx.top ≡ y / 256 = sym (way-own sx) ∙ (ap (way sx) one ∙ w.below.1) in
+      let its_top : sx.top ≡ y / 256 = sym (bytes_above-own sx) ∙ (ap (bytes_above sx) one ∙ w.below.1) in
       let is : 256 * sx.top + y % 256 ≡ y = ap (λ (z : ℕ). 256 * z + y % 256) its_top ∙ (let s : 256 * (y / 256) + y % 256 ≡ y = omega arith in s) in
       ap (lookup m) (sym is) ∙ empty_leaf d m hx sx.top (y % 256) one (empty (y % 256) (omega arith))
 
@@ -178,13 +178,13 @@ module _ (id : ℕ) (v : View) (x q : Spot) (cx cq : Content) (word n : ℕ) (ev
   cs' = put_at p.contents k e
 
   long : length b.content ≡ length (node ns k).content
-  long = let s = l.met.spot in e_long ∙ sym (p.nodes.long k s.below_trunk s.low ∙ ap words_of s.form)
+  long = let s = l.met.spot in e_long ∙ sym (p.nodes.long k s.below_root_word s.low ∙ ap words_of s.form)
 
   some_y : 1 ≤ y
-  some_y = lx.met.spot.below_trunk
+  some_y = lx.met.spot.below_root_word
 
   some_k : 1 ≤ k
-  some_k = l.met.spot.below_trunk
+  some_k = l.met.spot.below_root_word
 
   high_y : (d₀.shape y).height ≡ x.shape.height
   high_y = ap (λ (s : Shape). s.height) lx.shaped
@@ -231,12 +231,11 @@ module _ (id : ℕ) (v : View) (x q : Spot) (cx cq : Content) (word n : ℕ) (ev
   )
 
   spot_unlinks : (a : Spot) → IsSpot d₀ ns a → IsSpot d' ns' a
-  spot_unlinks a s = record { below_trunk = s.below_trunk; low = low_stays d₀ ns k b low refl long a.number s.low; key = s.key; form = s.form }
+  spot_unlinks a s = record { below_root_word = s.below_root_word; low = low_stays d₀ ns k b low refl long a.number s.low; key = s.key; form = s.form }
 
   met_unlinks : (a : Spot) → IsMet d₀ ns a → IsMet d' ns' a
   met_unlinks a m = record {
     spot = spot_unlinks a m.spot;
-    linked = m.linked;
     lasts = λ tall. let t = m.lasts tall in
         let ne : a.number ≢ y = λ s. (let z = ap (λ (j : ℕ). (d₀.shape j).height) s in let w = ap (λ (s : Shape). s.height) t.0 in omega (arith, z, w, tall, high_y, below, level)) in
         (t.0, keeps d₀ y a.shape.height a.shape.top a.number t.1 ne);
@@ -250,7 +249,7 @@ module _ (id : ℕ) (v : View) (x q : Spot) (cx cq : Content) (word n : ℕ) (ev
 
   watch_unlinks : (j : ℕ) → j ≢ id → (a : Watch) → IsWatched d₀ ns j a → IsWatched d' ns' j a
   watch_unlinks j other a w = record {
-    below_trunk = w.below_trunk;
+    below_root_word = w.below_root_word;
     low = low_stays d₀ ns k b low refl long a.above w.low;
     later = dite (ℕ_discrete a.above k)
         (λ s. subst (NoLater a.word) (sym (here_node a.above s)) (no_later a.word (node ns k) b rises (subst (λ (z : ℕ). NoLater a.word (node ns z)) s w.later)))
@@ -261,16 +260,16 @@ module _ (id : ℕ) (v : View) (x q : Spot) (cx cq : Content) (word n : ℕ) (ev
         let bound' = subst (IsBound j a.word) (else_node a.above ne) bound in
         let t = w.leads bound' in
         let s : Shape = a.spot.shape in
-        let up_is : way s t.level / 256 ≡ way s (suc t.level) = sym (way-suc s t.level t.tall) in
-        let low_spot : a.spot.number ≢ y = λ same. ne (one t.level (way s t.level) a.above (t.here ∙ same) (ap (d₀.home (suc t.level)) up_is ∙ t.above) t.above_high) in
+        let up_is : bytes_above s t.level / 256 ≡ bytes_above s (suc t.level) = sym (bytes_above-suc s t.level t.tall) in
+        let low_spot : a.spot.number ≢ y = λ same. ne (one t.level (bytes_above s t.level) a.above (t.here ∙ same) (ap (d₀.home (suc t.level)) up_is ∙ t.above) t.above_high) in
         let not_y : a.above ≢ y = λ same. bound_else j other a.word (node ns a.above) bound' (ap (λ (z : ℕ). (node ns z).holder) same ∙ lx.holder) in
         record {
           level = t.level;
           some_node = t.some_node;
           shaped = t.shaped;
           tall = t.tall;
-          here = keeps d₀ y t.level (way s t.level) a.spot.number t.here low_spot;
-          above = keeps d₀ y (suc t.level) (way s (suc t.level)) a.above t.above not_y;
+          here = keeps d₀ y t.level (bytes_above s t.level) a.spot.number t.here low_spot;
+          above = keeps d₀ y (suc t.level) (bytes_above s (suc t.level)) a.above t.above not_y;
           above_high = t.above_high;
         });
   }
@@ -287,20 +286,12 @@ module _ (id : ℕ) (v : View) (x q : Spot) (cx cq : Content) (word n : ℕ) (ev
     content = else_cs a.number other.1 ∙ h.content;
     current = keeps d₀ y a.shape.height a.shape.top a.number h.current other.0;
   }
-  own_unlinks j ne (fresh a c) h = let not_k : a.number ≢ k = λ s. not_some j (sym h.maker ∙ (ap d₀.maker s ∙ l.met.linked)) in record {
+  own_unlinks j ne (detached a) h = let other = not_mine j ne a.number h.holder in record {
     spot = spot_unlinks a h.spot;
-    shaped = h.shaped;
-    maker = h.maker;
-    free = subst IsFree (sym (else_node a.number not_k)) h.free;
-    content = else_cs a.number not_k ∙ h.content;
-  }
-  own_unlinks j ne (outgrown a) h = let other = not_mine j ne a.number h.holder in record {
-    spot = spot_unlinks a h.spot;
-    linked = h.linked;
     holder = ap (λ (z : Node). z.holder) (else_node a.number other.1) ∙ h.holder;
-    replaced = λ here. h.replaced (there d₀ y (d₀.shape a.number).height (d₀.shape a.number).top a.number h.spot.below_trunk here).0;
+    replaced = λ here. h.replaced (there d₀ y (d₀.shape a.number).height (d₀.shape a.number).top a.number h.spot.below_root_word here).0;
   }
-  own_unlinks j ne (trunk c) h = let other = not_mine j ne 0 h.0 in
+  own_unlinks j ne (root_word c) h = let other = not_mine j ne 0 h.0 in
       (ap (λ (z : Node). z.holder) (else_node 0 other.1) ∙ h.0, ap (λ (z : Node). z.content) (else_node 0 other.1) ∙ h.1)
 
   alive_unlinks : AreAlive d' ns'
@@ -323,7 +314,6 @@ module _ (id : ℕ) (v : View) (x q : Spot) (cx cq : Content) (word n : ℕ) (ev
         let w = there d₀ y h s (d'.home h s) some_node refl in
         let o : IsHouse d₀ ns h s (d'.home h s) = subst (λ (z : ℕ). IsHouse d₀ ns h s z) w.0 (t.housed h s (subst (λ (z : ℕ). 1 ≤ z) (sym w.0) some_node)) in record {
           low = low_stays d₀ ns k b low refl long (d'.home h s) o.low;
-          linked = o.linked;
           level = o.level;
           some_height = o.some_height;
           below = o.below;
@@ -357,19 +347,18 @@ module _ (id : ℕ) (v : View) (x q : Spot) (cx cq : Content) (word n : ℕ) (ev
         (λ ne. t.absent key (sym (stays d₀ y 1 (key / 256) ne) ∙ none));
   }
 
-  x_out : IsOwn d' ns' cs' id (outgrown x)
+  x_out : IsOwn d' ns' cs' id (detached x)
   x_out = record {
     spot = spot_unlinks x lx.met.spot;
-    linked = lx.met.linked;
     holder = ap (λ (z : Node). z.holder) (else_node y (λ s. k_not_y (sym s))) ∙ lx.holder;
     replaced = λ here. (there d₀ y (d₀.shape y).height (d₀.shape y).top y some_y here).1 refl;
   }
 
-  unlinks : IsMap ns' (set vs id (view_of v.seen v.met (outgrown x ∷ [])))
+  unlinks : IsMap ns' (set vs id (view_of v.seen v.met (detached x ∷ [])))
   unlinks =
       let kn = p.each_view id v seat in
-      with_map ns vs id p ns' (view_of v.seen v.met (outgrown x ∷ [])) d' cs' p.history p.pairs p.legal
-      (let a = nodes_stay d₀ ns k b low refl long p.nodes in record { some_trunk = a.some_trunk; trunk_long = a.trunk_long; placed = a.placed; long = a.long; apart = a.apart })
+      with_map ns vs id p ns' (view_of v.seen v.met (detached x ∷ [])) d' cs' p.history p.pairs p.legal
+      (let a = nodes_stay d₀ ns k b low refl long p.nodes in record { some_root_word = a.some_root_word; root_word_long = a.root_word_long; placed = a.placed; long = a.long; apart = a.apart })
       (settled_stays d₀ ns k b low refl long p.contents cs' p.settled (λ _ _. sym (put_here p.contents k e)) else_cs)
       alive_unlinks tree_unlinks met_unlinks watch_unlinks own_unlinks (λ j ne s h. h) p.unborn record {
         seen = kn.seen;
@@ -410,7 +399,7 @@ unlink id v key x q cx cq is word n even e below some_height e_long loses w name
     let empty : (b : ℕ) → b < 256 → IsUnder d p.pairs x.shape.height x.shape.top b None = λ b lo.
     subst (λ (fs : List (ℕ × Child ℕ)). IsUnder d p.pairs x.shape.height x.shape.top b (lookup fs b)) (none of_x.its of_x.encodes of_x.in_form) (of_x.under b lo) in
     let x_tall : (d.shape x.number).height ≡ x.shape.height = ap (λ (s : Shape). s.height) lx.shaped in
-    let ways : way (d.shape x.number) (suc hq) ≡ 256 * q.shape.top + byte = subst (λ (z : ℕ). way (d.shape z) (suc hq) ≡ 256 * q.shape.top + byte) leads house.below.1 in
+    let same_bytes : bytes_above (d.shape x.number) (suc hq) ≡ 256 * q.shape.top + byte = subst (λ (z : ℕ). bytes_above (d.shape z) (suc hq) ≡ 256 * q.shape.top + byte) leads house.below.1 in
     let fs : List (ℕ × Child ℕ) = cur.its.children in
     let new : IsCurrent (unlinked d x.number) p.pairs q.shape e = record {
       its = with_child cur.its byte None;
@@ -426,11 +415,11 @@ unlink id v key x q cx cq is word n even e below some_height e_long loses w name
           (sym (lookup-without_other fs byte b ne))
           (leads_old d x.number (lookup fs b) (suc hq) (256 * q.shape.top + b)
           (λ here.
-          let also : way (d.shape x.number) (suc hq) ≡ 256 * q.shape.top + b = subst (λ (z : ℕ). way (d.shape z) (suc hq) ≡ 256 * q.shape.top + b) here (p.tree.housed (suc hq) (256 * q.shape.top + b) (subst (λ (z : ℕ). 1 ≤ z) (sym here) lx.met.spot.below_trunk)).below.1 in
-          ne (omega (arith, ways, also)))
+          let also : bytes_above (d.shape x.number) (suc hq) ≡ 256 * q.shape.top + b = subst (λ (z : ℕ). bytes_above (d.shape z) (suc hq) ≡ 256 * q.shape.top + b) here (p.tree.housed (suc hq) (256 * q.shape.top + b) (subst (λ (z : ℕ). 1 ≤ z) (sym here) lx.met.spot.below_root_word)).below.1 in
+          ne (omega (arith, same_bytes, also)))
           (under_inner d p.pairs q.shape.height hq q.shape.top b (lookup fs b) high (cur.under b lo)))));
     } in (
-      view_of v.seen v.met (outgrown x ∷ []),
+      view_of v.seen v.met (detached x ∷ []),
       unlinks id v x q cx cq word n even e below e_long ns vs p seat low held rises lx l hq byte high level byte_low leads empty new,
       ap (λ (os : List Own). view_of v.seen v.met (left_out os)) (sym is),
     )

@@ -6,17 +6,17 @@ use Rattle.word_book.specs.Book.{Book, Name}
 use Rattle.live_nodes.specs.Seats.{SeatView}
 use Rattle.live_layout.specs.Encodes.{counted, most}
 use Rattle.live_law.specs.Views.{View}
-use Rattle.live_reads.specs.Ways.{AreNamed}
-use Rattle.live_growth.specs.Holds.{HasRegained}
-use Rattle.live_reads.specs.declared.descend.Stand.{Stand}
+use Rattle.live_reads.specs.Paths.{AreNamed}
+use Rattle.live_growth.specs.Holds.{HasReclaimed}
+use Rattle.live_reads.specs.declared.descend.Position.{Position}
 use Rattle.live_detach.specs.Two.{LeadsTwo}
 
 -- The third has the next smaller form, and room for the children of the lower one.
-pub record HasThree (v : SeatView View) (b : Book) (words words_above others : List Name) (free free_above back spare : ℕ) (s : Stand) (key : ℕ) : Type 0 where
+pub record HasThree (v : SeatView View) (b : Book) (words words_above others : List Name) (free free_above back spare : ℕ) (s : Position) (key : ℕ) : Type 0 where
   pub before : SeatView View
   pub lead : LeadsTwo before b words words_above free free_above s key
-  pub regained : HasRegained before v spare back
+  pub reclaimed : HasReclaimed before v spare back
   pub are : AreNamed b spare others
   pub some_form : lead.two.below.shape.form ≢ N4
-  pub smaller : regained.spot.shape.form ≡ smaller_form lead.two.below.shape.form
+  pub smaller : reclaimed.spot.shape.form ≡ smaller_form lead.two.below.shape.form
   pub few : counted (limit lead.two.below.shape.form) lead.two.content ≤ most (limit (smaller_form lead.two.below.shape.form))

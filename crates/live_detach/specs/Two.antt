@@ -1,6 +1,6 @@
 -- A NODE AND THE ONE ABOVE IT are locked, and nothing was written in either.
 use Rattle.std.specs.Prelude.{◌≡◌, ◌≢◌, ℕ, ◌+◌, ◌%◌, ◌<◌, ◌^◌, List, [], ◌∷◌, length}
-use Rattle.node_table.specs.TableNode.{TableNode}
+use Rattle.spec_node.specs.TableNode.{TableNode}
 use Rattle.word_book.specs.Book.{Book, Name}
 use Rattle.live_nodes.specs.Nodes.{Content}
 use Rattle.live_nodes.specs.Seats.{hold, SeatView, IsIn}
@@ -9,7 +9,7 @@ use Rattle.live_layout.specs.Encodes.{words_of, Encodes}
 use Rattle.live_law.specs.Levels.{digit, Spot, name_of, Covers, place_at}
 use Rattle.live_law.specs.Views.{View, locked}
 use Rattle.live_growth.specs.Holds.{HasWordOf}
-use Rattle.live_reads.specs.declared.descend.Stand.{Stand}
+use Rattle.live_reads.specs.declared.descend.Position.{Position}
 
 -- a node that is locked: its words, and the word by which it was free
 pub record IsHeld (v : SeatView View) (b : Book) (words : List Name) (free : ℕ) (a : Spot) (c : Content) : Type 0 where
@@ -34,7 +34,7 @@ pub record HoldsTwo (v : SeatView View) (b : Book) (words words_above : List Nam
   pub held_above : IsHeld v b words_above free_above above content_above
 
 -- The upper one leads to the lower, by a key's digit. Both have keys that begin like this one.
-pub record LeadsTwo (v : SeatView View) (b : Book) (words words_above : List Name) (free free_above : ℕ) (s : Stand) (key : ℕ) : Type 0 where
+pub record LeadsTwo (v : SeatView View) (b : Book) (words words_above : List Name) (free free_above : ℕ) (s : Position) (key : ℕ) : Type 0 where
   pub two : HoldsTwo v b words words_above free free_above
   pub named : s.name ≡ name_of two.below.shape
   pub named_above : s.above ≡ name_of two.above.shape
@@ -49,6 +49,6 @@ abbrev pub HasNone : Spot → Content → Type 0
 HasNone a c = (n : TableNode ℕ) → Encodes c n → n.form ≡ a.shape.form → n.children ≡ []
 
 -- The lower one is to be taken out.
-pub record PartsTwo (v : SeatView View) (b : Book) (words words_above : List Name) (free free_above : ℕ) (s : Stand) (key : ℕ) : Type 0 where
+pub record PartsTwo (v : SeatView View) (b : Book) (words words_above : List Name) (free free_above : ℕ) (s : Position) (key : ℕ) : Type 0 where
   pub lead : LeadsTwo v b words words_above free free_above s key
   pub none : HasNone lead.two.below lead.two.content

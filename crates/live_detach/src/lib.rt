@@ -10,5 +10,5 @@
 
 pub mod detach;
 pub mod law;
-pub mod narrow;
+pub mod shrink_node;
 pub mod tidy;

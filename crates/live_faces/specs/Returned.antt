@@ -1,6 +1,6 @@
 -- WHAT A CALL RETURNS, and the entry with which the history ends that its guard has then seen. Keys and values are written
 -- as numbers, and values are read back from them.
-use Rattle.std.specs.Prelude.{◌≡◌, ℕ, List, map, Option, Result, Ok, Err}
+use Rattle.std.specs.Prelude.{◌≡◌, ℕ, Bool, List, map, Option, Result, Ok, Err}
 use Rattle.std.specs.Option.{option_map}
 use Rattle.spec_map.specs.Map.{Pairs}
 use Rattle.share_rule.specs.History.{Entry}
@@ -10,6 +10,7 @@ use Rattle.live_scans.specs.Scans.{HasNext}
 use Rattle.live_scans.specs.Floors.{HasBefore}
 use Rattle.live_updates.specs.Closures.{EndsWithCall}
 use Rattle.live_updates.specs.ClosureEntries.{inserted_with}
+use Rattle.live_pops.specs.Pops.{HasPopped}
 use Rattle.live_copies.specs.Copies.{HasCopied}
 
 -- A CALL, by a guard that knew k
@@ -47,6 +48,10 @@ ReturnsNext of_pair k low found n = (pair : Option (ℕ × ℕ)) × (found ≡ o
 -- The same of the last pair below a key
 abbrev pub ReturnsBefore : {P : Type 0} → (ℕ × ℕ → P) → Known → ℕ → Option P → Known → Type 0
 ReturnsBefore of_pair k high found n = (pair : Option (ℕ × ℕ)) × (found ≡ option_map of_pair pair) × HasBefore k high pair n
+
+-- A POP by a guard that knew k returned the pair that it removed, or none
+abbrev pub ReturnsPopped : {P : Type 0} → (ℕ × ℕ → P) → Bool → ℕ → ℕ → Known → Option P → Known → Type 0
+ReturnsPopped of_pair up low high k found n = (pair : Option (ℕ × ℕ)) × (found ≡ option_map of_pair pair) × HasPopped up low high k pair n
 
 -- All pairs of one moment were returned, to a guard that knew k
 abbrev pub ReturnsAll : {P : Type 0} → (ℕ × ℕ → P) → Known → List P → Known → Type 0

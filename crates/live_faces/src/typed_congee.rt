@@ -14,6 +14,8 @@ mod counts;
 mod floors;
 mod moves;
 pub mod notes;
+mod pops;
+mod removals;
 mod scans;
 mod updates;
 

@@ -2,7 +2,7 @@
 use Rattle.std.proofs.Common.{◌≡◌, ◌≢◌, ℕ, ◌+◌, ◌-◌, ◌*◌, ◌%◌, ◌<◌, ◌≤◌, ◌^◌, Bool, cond, nat_eq, List, [], ◌∷◌, ◌++◌, length, take, length-take, slice_index, Some, refl, sym, ap, ◌∙◌, subst, inr, arith, eq-eqb, ne_eqb}
 use Rattle.std.proofs.lemmas.List.{get_or-take}
 use Rattle.node_base.specs.declared.base_node.NodeType.{NodeType}
-use Rattle.node_table.specs.declared.child.Child.TheVariants.{Node as Below}
+use Rattle.spec_node.specs.declared.child.Child.TheVariants.{Node as Below}
 use Rattle.spec_map.specs.Map.{put}
 use Rattle.word_book.specs.Book.{Book, Name, writes, compares, none_joined, Joined}
 use Rattle.live_nodes.specs.Nodes.{Content}
@@ -14,12 +14,12 @@ use Rattle.live_nodes.specs.Calls.{MayLock, MayFree}
 use Rattle.live_nodes.specs.Rows.{AreOf, nth, draft_of, undrafted, without_draft}
 use Rattle.live_layout.specs.Encodes.{words_of, Encodes, empty_node, with_child}
 use Rattle.live_law.specs.Levels.{digit, Spot, spot, name_of, place_at}
-use Rattle.live_law.specs.Views.{View, view_of, Own, locked, outgrown, rest_of, Ask}
-use Rattle.live_law.specs.Tree.{IsMap, IsApart, IsRegained, LearnsRegained, again, leads_again, left_again}
-use Rattle.live_law.proofs.Locks.{node_regains}
-use Rattle.live_law.proofs.Joins.{IsEmptyNode, IsFork}
-use Rattle.live_reads.specs.Ways.{Sights, AreNamed, Keeps}
-use Rattle.live_growth.specs.Holds.{Alike, HoldsOne, HasRegained}
+use Rattle.live_law.specs.Views.{View, view_of, Own, locked, detached, rest_of, Ask}
+use Rattle.live_law.specs.Tree.{IsMap, IsApart, IsReclaimed, LearnsReclaimed, again, leads_again, left_again}
+use Rattle.live_law.proofs.Locks.{node_reclaims}
+use Rattle.live_law.proofs.Joins.{IsEmptyNode, IsSplit}
+use Rattle.live_reads.specs.Paths.{Sights, AreNamed, Keeps}
+use Rattle.live_growth.specs.Holds.{Alike, HoldsOne, HasReclaimed}
 use Rattle.live_growth.specs.Rooms.{HasGrown}
 use Rattle.live_reads.proofs.Views.{reading, same_place, same_named}
 use Rattle.live_growth.proofs.Locks.{hold_head, alike_read}
@@ -30,20 +30,20 @@ Seen = SeatView View
 
 -- An obsolete node is locked.
 module _ (v : Seen) (name : ℕ) (s : Sights v name) (v₁ : Seen) (t : ℕ) (taken : v₁ ≡ reading v s.spot.number t []) (k : ℕ) (at_k : s.spot.shape.key ≡ k) where
-  pub may_regain : (id m : ℕ) → t ≡ 4 * m + 3 → MayLock v₁ k IsMap id LearnsRegained t (t + 3)
-  may_regain id m odd = subst (λ (z : Seen). MayLock z k IsMap id LearnsRegained t (t + 3)) (sym taken) (place_at s.spot, (s.placed, at_k), node_regains id v.client s.spot s.met t m odd (t + 3) (omega arith))
+  pub may_reclaim : (id m : ℕ) → t ≡ 4 * m + 3 → MayLock v₁ k IsMap id LearnsReclaimed t (t + 3)
+  may_reclaim id m odd = subst (λ (z : Seen). MayLock z k IsMap id LearnsReclaimed t (t + 3)) (sym taken) (place_at s.spot, (s.placed, at_k), node_reclaims id v.client s.spot s.met t m odd (t + 3) (omega arith))
 
-  module _ (v₂ : Seen) (m : ℕ) (j : Joined) (told : Locks LearnsRegained (compares k t (t + 3)) v₁ m j v₂) where
-    tried : plays.Tried (LearnsRegained v.client s.spot.number) s.spot.number t (t + 3) (words_of s.spot.shape.form) (reading v s.spot.number t []) m v₂
-    tried = subst (λ (z : Seen). Locks LearnsRegained (compares k t (t + 3)) z m j v₂) taken told (place_at s.spot) s.placed at_k
+  module _ (v₂ : Seen) (m : ℕ) (j : Joined) (told : Locks LearnsReclaimed (compares k t (t + 3)) v₁ m j v₂) where
+    tried : plays.Tried (LearnsReclaimed v.client s.spot.number) s.spot.number t (t + 3) (words_of s.spot.shape.form) (reading v s.spot.number t []) m v₂
+    tried = subst (λ (z : Seen). Locks LearnsReclaimed (compares k t (t + 3)) z m j v₂) taken told (place_at s.spot) s.placed at_k
 
-    pub not_regained : m ≢ t → Alike v v₂ × (v₂.client ≡ v.client) × (v₂.holds ≡ v.holds)
-    not_regained ne = alike_read v v₂ s.spot.number t [] (tried.lost ne)
+    pub not_reclaimed : m ≢ t → Alike v v₂ × (v₂.client ≡ v.client) × (v₂.holds ≡ v.holds)
+    not_reclaimed ne = alike_read v v₂ s.spot.number t [] (tried.lost ne)
 
-    pub is_regained : m ≡ t → t % 4 ≡ 3 → t < 2 ^ 62 → HasRegained v v₂ name (t + 1)
-    is_regained hit odd small =
+    pub is_reclaimed : m ≡ t → t % 4 ≡ 3 → t < 2 ^ 62 → HasReclaimed v v₂ name (t + 1)
+    is_reclaimed hit odd small =
         let w = tried.won hit in
-        let h : IsRegained v.client s.spot w.1 = w.4 s.spot s.met refl in
+        let h : IsReclaimed v.client s.spot w.1 = w.4 s.spot s.met refl in
         let places : v₂.places ≡ v.places = ap (λ (z : Seen). z.places) w.3 in record {
           spot = spot s.spot.number h.shape;
           named = s.named ∙ sym (same_named s.spot h.shape h.now);
@@ -126,8 +126,8 @@ module _ (v : Seen) (a : Spot) (free : ℕ) (d : Content) (hs : List Hold) (hold
       (s.0, s.1 ∙ ap (λ (z : List Hold). seat_view s.0 v.places v.reads z v.room) left, s.2)
 
 -- A node is used again while the one above it is held.
-pub pair_regained : (v w : Seen) (b b' : Book) (words_r words_p : List Name) (free_r free_p name : ℕ) (h : HasRegained v w name free_r) (p : Spot) (c : Content) → b' ≡ b → HoldsOne v b words_p free_p p c c → AreNamed b' name words_r → Pair w b' words_r words_p free_r free_p h.spot p h.content c
-pair_regained v w b b' words_r words_p free_r free_p name h p c same one are = record {
+pub pair_reclaimed : (v w : Seen) (b b' : Book) (words_r words_p : List Name) (free_r free_p name : ℕ) (h : HasReclaimed v w name free_r) (p : Spot) (c : Content) → b' ≡ b → HoldsOne v b words_p free_p p c c → AreNamed b' name words_r → Pair w b' words_r words_p free_r free_p h.spot (place_at p) h.content c
+pair_reclaimed v w b b' words_r words_p free_r free_p name h p c same one are = record {
   holds = h.holds ∙ ap (λ (hs : List Hold). hold h.spot.number (free_r + 2) h.content ∷ hs) one.holds;
   apart = (subst (Each (IsApart h.spot.number)) one.own h.apart).0;
   placed_x = h.placed;
@@ -137,18 +137,18 @@ pair_regained v w b b' words_r words_p free_r free_p name h p c same one are = r
 }
 
 -- More is known, and both are held as before.
-pub pair_keeps : (v : Seen) (b : Book) (words_x words_p : List Name) (free_x free_p : ℕ) (x p : Spot) (dx dp : Content) → Pair v b words_x words_p free_x free_p x p dx dp → (w : Seen) (b' : Book) → b' ≡ b → Keeps v w → Pair w b' words_x words_p free_x free_p x p dx dp
+pub pair_keeps : (v : Seen) (b : Book) (words_x words_p : List Name) (free_x free_p : ℕ) (x : Spot) (p : Place) (dx dp : Content) → Pair v b words_x words_p free_x free_p x p dx dp → (w : Seen) (b' : Book) → b' ≡ b → Keeps v w → Pair w b' words_x words_p free_x free_p x p dx dp
 pair_keeps v b words_x words_p free_x free_p x p dx dp h w b' same k = record {
   holds = k.holds ∙ h.holds;
   apart = h.apart;
   placed_x = k.places (place_at x) h.placed_x;
-  placed_p = k.places (place_at p) h.placed_p;
+  placed_p = k.places p h.placed_p;
   are_x = subst (λ (z : Book). AreOf (place_at x) z words_x) (sym same) h.are_x;
-  are_p = subst (λ (z : Book). AreOf (place_at p) z words_p) (sym same) h.are_p;
+  are_p = subst (λ (z : Book). AreOf p z words_p) (sym same) h.are_p;
 }
 
 -- and written
-pub pair_filled : (v : Seen) (b : Book) (words_x words_p : List Name) (free_x free_p : ℕ) (x p : Spot) (dx dp : Content) → Pair v b words_x words_p free_x free_p x p dx dp → (w : Seen) (b' : Book) → b' ≡ b → without_draft 0 w ≡ without_draft 0 v → Pair w b' words_x words_p free_x free_p x p (draft_of (nth 0 w.holds)) dp
+pub pair_filled : (v : Seen) (b : Book) (words_x words_p : List Name) (free_x free_p : ℕ) (x : Spot) (p : Place) (dx dp : Content) → Pair v b words_x words_p free_x free_p x p dx dp → (w : Seen) (b' : Book) → b' ≡ b → without_draft 0 w ≡ without_draft 0 v → Pair w b' words_x words_p free_x free_p x p (draft_of (nth 0 w.holds)) dp
 pair_filled v b words_x words_p free_x free_p x p dx dp h w b' same e =
     let before : undrafted (nth 0 v.holds) v.holds ≡ hold x.number (free_x + 2) [] ∷ hold p.number (free_p + 2) dp ∷ [] =
     ap (λ (hs : List Hold). undrafted (nth 0 hs) hs) h.holds
@@ -158,12 +158,12 @@ pair_filled v b words_x words_p free_x free_p x p dx dp h w b' same e =
       holds = first_drafted w.holds x.number (free_x + 2) (hold p.number (free_p + 2) dp ∷ []) (h.apart, tt) (ap (λ (z : Seen). z.holds) e ∙ before);
       apart = h.apart;
       placed_x = subst (λ (ps : List Place). IsIn (place_at x) ps) (sym (ap (λ (z : Seen). z.places) e)) h.placed_x;
-      placed_p = subst (λ (ps : List Place). IsIn (place_at p) ps) (sym (ap (λ (z : Seen). z.places) e)) h.placed_p;
+      placed_p = subst (λ (ps : List Place). IsIn p ps) (sym (ap (λ (z : Seen). z.places) e)) h.placed_p;
       are_x = subst (λ (z : Book). AreOf (place_at x) z words_x) (sym same) h.are_x;
-      are_p = subst (λ (z : Book). AreOf (place_at p) z words_p) (sym same) h.are_p;
+      are_p = subst (λ (z : Book). AreOf p z words_p) (sym same) h.are_p;
     }
 
--- a node without children, for the way of a key
+-- a node without children, for the path of a key
 pub empty_again : (q : Ask) (r : Spot) (key height : ℕ) (bytes : List ℕ) → length bytes ≡ 8 → ((i : ℕ) → i < 8 → slice_index bytes i ≡ digit (8 - i) key) → key < 2 ^ 64 → q.key ≡ key → q.height ≡ height → 1 ≤ height → height ≤ 8 → (form : NodeType) → form ≡ r.shape.form → (d : Content) → Encodes d (empty_node form (take (8 - height) bytes)) → IsEmptyNode (again q r) d
 empty_again q r key height bytes long is fits asks_key asks_height low high form form_is d encodes =
     let short : length (take (8 - height) bytes) ≡ 8 - height = (let l = length-take (8 - height) bytes in omega (arith, l, long)) in record {
@@ -180,10 +180,10 @@ empty_again q r key height bytes long is fits asks_key asks_height low high form
       empty = refl;
     }
 
--- a node with one child, for the way of a key
-pub fork_again : (q : Ask) (r x : Spot) (key height : ℕ) (bytes : List ℕ) → length bytes ≡ 8 → ((i : ℕ) → i < 8 → slice_index bytes i ≡ digit (8 - i) key) → key < 2 ^ 64 → q.key ≡ key → q.height ≡ height → 1 ≤ height → height ≤ 8 → (form : NodeType) → form ≡ r.shape.form → (d : Content) (byte below : ℕ) → below ≡ name_of x.shape
-    → Encodes d (with_child (empty_node form (take (8 - height) bytes)) byte (Some (Below below))) → IsFork (again q r) x byte d
-fork_again q r x key height bytes long is fits asks_key asks_height low high form form_is d byte below named encodes =
+-- a node with one child, for the path of a key
+pub again_split : (q : Ask) (r x : Spot) (key height : ℕ) (bytes : List ℕ) → length bytes ≡ 8 → ((i : ℕ) → i < 8 → slice_index bytes i ≡ digit (8 - i) key) → key < 2 ^ 64 → q.key ≡ key → q.height ≡ height → 1 ≤ height → height ≤ 8 → (form : NodeType) → form ≡ r.shape.form → (d : Content) (byte below : ℕ) → below ≡ name_of x.shape
+    → Encodes d (with_child (empty_node form (take (8 - height) bytes)) byte (Some (Below below))) → IsSplit (again q r) x byte d
+again_split q r x key height bytes long is fits asks_key asks_height low high form form_is d byte below named encodes =
     let short : length (take (8 - height) bytes) ≡ 8 - height = (let l = length-take (8 - height) bytes in omega (arith, l, long)) in record {
       its = with_child (empty_node form (take (8 - height) bytes)) byte (Some (Below below));
       encodes = encodes;
@@ -199,7 +199,7 @@ fork_again q r x key height bytes long is fits asks_key asks_height low high for
     }
 
 -- what a seat knows once a node that is used again is linked
-pub again_grown_on : (v n z x : Seen) (e e2 : View) (q : Ask) (cy : Content) (r p : Spot) (cp : Content) (hs : List Hold) → ((a : Place) → IsIn a v.places → IsIn a n.places) → ((a : Spot) → IsIn a v.client.met → IsIn a n.client.met) → n.client.seen ≡ v.client.seen → n.client.own ≡ outgrown r ∷ locked p cp ∷ []
+pub again_grown_on : (v n z x : Seen) (e e2 : View) (q : Ask) (cy : Content) (r p : Spot) (cp : Content) (hs : List Hold) → ((a : Place) → IsIn a v.places → IsIn a n.places) → ((a : Spot) → IsIn a v.client.met → IsIn a n.client.met) → n.client.seen ≡ v.client.seen → n.client.own ≡ detached r ∷ locked p cp ∷ []
     → z ≡ seat_view e n.places n.reads hs n.room → e ≡ view_of n.client.seen (leads_again q n.client.own ++ n.client.met) (left_again q cy n.client.own)
     → x ≡ seat_view e2 z.places z.reads [] z.room → e2 ≡ view_of z.client.seen z.client.met (rest_of z.client.own) → HasGrown v x
 again_grown_on v n z x e e2 q cy r p cp hs places met seen own z_is e_is x_is e2_is =
@@ -214,7 +214,7 @@ again_grown_on v n z x e e2 q cy r p cp hs places met seen own z_is e_is x_is e2
       seen = ap (λ (t : View). t.seen) x_client ∙ (ap (λ (t : View). t.seen) z_client ∙ seen);
     }
 
-pub again_grown : (v n z x : Seen) (e e2 : View) (q : Ask) (cy : Content) (r p : Spot) (cp : Content) (hs : List Hold) → n.places ≡ v.places → n.client.met ≡ v.client.met → n.client.seen ≡ v.client.seen → n.client.own ≡ outgrown r ∷ locked p cp ∷ []
+pub again_grown : (v n z x : Seen) (e e2 : View) (q : Ask) (cy : Content) (r p : Spot) (cp : Content) (hs : List Hold) → n.places ≡ v.places → n.client.met ≡ v.client.met → n.client.seen ≡ v.client.seen → n.client.own ≡ detached r ∷ locked p cp ∷ []
     → z ≡ seat_view e n.places n.reads hs n.room → e ≡ view_of n.client.seen (leads_again q n.client.own ++ n.client.met) (left_again q cy n.client.own)
     → x ≡ seat_view e2 z.places z.reads [] z.room → e2 ≡ view_of z.client.seen z.client.met (rest_of z.client.own) → HasGrown v x
 again_grown v n z x e e2 q cy r p cp hs places met seen own z_is e_is x_is e2_is =

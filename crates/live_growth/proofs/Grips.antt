@@ -1,7 +1,5 @@
 -- A node that is held last, whatever else the seat has to itself.
-use Rattle.std.proofs.Common.{◌≡◌, ℕ, ◌+◌, ◌*◌, ◌<◌, ◌≤◌, Bool, cond, List, [], ◌∷◌, length, Some, None, refl, sym, ap, ◌∙◌, subst, inr, arith, eq-eqb}
-use Rattle.node_table.specs.TableNode.{TableNode}
-use Rattle.spec_map.specs.Map.{lookup}
+use Rattle.std.proofs.Common.{◌≡◌, ℕ, ◌+◌, Bool, cond, List, [], ◌∷◌, length, Some, refl, sym, ap, ◌∙◌, subst, eq-eqb}
 use Rattle.word_book.specs.Book.{Book, Name, writes, none_joined}
 use Rattle.live_nodes.specs.Nodes.{Content}
 use Rattle.live_nodes.specs.Seats.{Place, Hold, hold, SeatView, seat_view, IsIn, without}
@@ -10,13 +8,10 @@ use Rattle.live_nodes.specs.Plays as plays
 use Rattle.live_nodes.specs.Plays.{hold_of}
 use Rattle.live_nodes.specs.Calls.{MayFree}
 use Rattle.live_nodes.specs.Rows.{AreOf, nth, draft_of, undrafted, MayHold, without_draft}
-use Rattle.live_layout.specs.Encodes.{words_of, Encodes}
-use Rattle.live_law.specs.Levels.{digit, Spot, Covers, place_at}
-use Rattle.live_law.specs.Views.{View, locked, fresh, Ask}
-use Rattle.live_law.specs.Tree.{IsMap, Links}
-use Rattle.live_law.proofs.Joins.{link_below, Changes, IsEmptyNode}
+use Rattle.live_law.specs.Levels.{Spot, place_at}
+use Rattle.live_law.specs.Views.{View}
+use Rattle.live_law.specs.Tree.{IsMap}
 use Rattle.live_growth.specs.Holds.{HoldsOne}
-use Rattle.live_growth.specs.Rooms.{HasMade}
 use Rattle.live_growth.proofs.Locks.{hold_head, one_drafted}
 
 abbrev Seen : Type 0
@@ -59,19 +54,3 @@ module _ (v : Seen) (b : Book) (words : List Name) (free : ℕ) (p : Place) (d :
 
 pub grips_one : (v : Seen) (b : Book) (words : List Name) (free : ℕ) (a : Spot) (c d : Content) → HoldsOne v b words free a c d → Grips v b words free (place_at a) d
 grips_one v b words free a c d h = record { holds = h.holds; placed = h.placed; are = h.are }
-
--- A NODE WAS MADE while another is held
-pub grip_made : (v w : Seen) (b b' : Book) (words : List Name) (free : ℕ) (p : Place) (d : Content) → b' ≡ b → Grips v b words free p d → (q : Ask) (c : Content) (form : Rattle.node_base.specs.declared.base_node.NodeType.NodeType) (name : ℕ) → HasMade q v w c form name → Grips w b' words free p d
-grip_made v w b b' words free p d same h q c form name m = record {
-  holds = m.holds ∙ h.holds;
-  placed = subst (λ (ps : List Place). IsIn (p) ps) (sym m.places) (inr h.placed);
-  are = subst (λ (z : Book). AreOf (p) z words) (sym same) h.are;
-}
-
--- and it becomes the other's child
-pub child_frees : (id : ℕ) (q : Ask) (v : Seen) (z : View) (a : Spot) (c : Content) (height : ℕ) (laid : (y : Spot) × (cy : Content) × (v.client.own ≡ fresh y cy ∷ locked a c ∷ []) × IsEmptyNode y cy × (y.shape.height ≡ q.height) × Covers y.shape q.key) → q.height < height → 1 ≤ q.height → a.shape.height ≡ height → Covers a.shape q.key
-    → (word n : ℕ) → word ≡ 4 * n → (e : Content) → length e ≡ words_of a.shape.form → Changes a c e q.key laid.0 → ((n : TableNode ℕ) → Encodes c n → n.form ≡ a.shape.form → lookup n.children (digit a.shape.height q.key) ≡ None)
-    → acts.Frees IsMap id v.client a.number word e (Links v.client a.number e)
-child_frees id q v z a c height laid above some_height high covers word n even e long changes absent =
-    let y = laid.0 in
-    link_below id v.client q.key y a laid.1 c laid.2 word n even e (let h = laid.4 in omega (arith, h, above, high)) (let h = laid.4 in omega (arith, h, some_height)) laid.5 covers long changes absent laid.3

@@ -2,10 +2,10 @@ pub mod Locks
 pub mod Values
 pub mod Written
 pub mod Rooms
-pub mod Spares
+pub mod FreeNodes
 pub mod Grips
 pub mod Linked
-pub mod Trunks
+pub mod RootWords
 pub mod StoodOn
 pub mod Ready
 pub mod Pairs

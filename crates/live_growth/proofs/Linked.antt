@@ -1,18 +1,16 @@
 -- A node that leads to a new one, by what is known of the writing.
-use Rattle.std.proofs.Common.{◌≡◌, ℕ, ◌<◌, ◌≤◌, List, [], ◌∷◌, ◌++◌, length, replicate, Option, Some, None, IfNone, sym, ap, ◌∙◌, subst, inr, arith}
+use Rattle.std.proofs.Common.{◌≡◌, ℕ, ◌<◌, ◌≤◌, length, replicate, Option, Some, None, IfNone, sym, ap, ◌∙◌, subst, arith}
 use Rattle.node_base.specs.declared.base_node.NodeType.{NodeType}
-use Rattle.node_table.specs.TableNode.{TableNode, Child, MayHave}
-use Rattle.node_table.specs.declared.child.Child.TheVariants.{Node as Below}
+use Rattle.spec_node.specs.TableNode.{TableNode, Child, MayHave}
+use Rattle.spec_node.specs.declared.child.Child.TheVariants.{Node as Below}
 use Rattle.spec_map.specs.Map.{lookup}
 use Rattle.live_nodes.specs.Nodes.{Content}
 use Rattle.live_nodes.specs.Seats.{Place, SeatView, seat_view, IsIn}
 use Rattle.live_layout.specs.Encodes.{Encodes, IsWord, with_child}
-use Rattle.live_law.specs.Levels.{digit, Spot, name_of, place_at}
-use Rattle.live_law.specs.Views.{View, view_of, with_own, Own, locked, fresh, Ask}
-use Rattle.live_law.specs.Tree.{leads_on, left_over}
+use Rattle.live_law.specs.Levels.{digit, Spot, name_of}
+use Rattle.live_law.specs.Views.{View, Ask}
 use Rattle.live_law.proofs.Joins.{Changes}
-use Rattle.live_growth.specs.Holds.{Alike}
-use Rattle.live_growth.specs.Rooms.{HasRoom, HasGrown}
+use Rattle.live_growth.specs.Rooms.{HasRoom}
 
 abbrev Seen : Type 0
 Seen = SeatView View
@@ -32,24 +30,6 @@ link_changes q key c c' same d form a y byte byte_is form_is word name is_word n
     let none = subst (λ (z : ℕ). lookup n.children z ≡ None) (sym byte_is) (absent n encodes formed) in
     subst (λ (z : ℕ × ℕ). Encodes d (with_child n z.0 (Some (Below z.1)))) (λ i. (byte_is i, named i))
     (put n (Below name) (subst (λ (z : Content). Encodes z n) (sym same) encodes) (formed ∙ sym form_is) is_word short none)
-
--- what a seat knows once a node is linked
-pub has_grown_on : (v w m u x : Seen) (e : View) (a y : Spot) (c cy : Content) → ((p : Place) → IsIn p v.places → IsIn p w.places) → ((s : Spot) → IsIn s v.client.met → IsIn s w.client.met) → w.client.seen ≡ v.client.seen → m.client ≡ with_own w.client (fresh y cy ∷ w.client.own) → m.places ≡ place_at y ∷ w.places
-    → u.client ≡ m.client → u.places ≡ m.places → m.client.own ≡ fresh y cy ∷ locked a c ∷ [] → x ≡ seat_view e u.places u.reads [] u.room → e ≡ view_of u.client.seen (leads_on u.client.own ++ u.client.met) (left_over u.client.own) → HasGrown v x
-has_grown_on v w m u x e a y c cy places met seen m_client m_places u_client u_places own x_is e_is =
-    let os = ap (λ (z : View). z.own) u_client ∙ own in
-    let client = ap (λ (z : Seen). z.client) x_is ∙ e_is in record {
-      own = ap (λ (z : View). z.own) client ∙ ap left_over os;
-      holds = ap (λ (z : Seen). z.holds) x_is;
-      places = λ p h. subst (λ (ps : List Place). IsIn p ps) (sym (ap (λ (z : Seen). z.places) x_is ∙ (u_places ∙ m_places))) (inr (places p h));
-      met = λ s h. subst (λ (l : List Spot). IsIn s l) (sym (ap (λ (z : View). z.met) client ∙ (ap (λ (z : List Own). leads_on z ++ u.client.met) os ∙ ap (λ (z : View). y ∷ z.met) (u_client ∙ m_client)))) (inr (met s h));
-      seen = ap (λ (z : View). z.seen) client ∙ (ap (λ (z : View). z.seen) (u_client ∙ m_client) ∙ seen);
-    }
-
-pub has_grown : (v w m u x : Seen) (e : View) (a y : Spot) (c cy : Content) → Alike v w → w.client.seen ≡ v.client.seen → m.client ≡ with_own w.client (fresh y cy ∷ w.client.own) → m.places ≡ place_at y ∷ w.places → u.client ≡ m.client → u.places ≡ m.places
-    → m.client.own ≡ fresh y cy ∷ locked a c ∷ [] → x ≡ seat_view e u.places u.reads [] u.room → e ≡ view_of u.client.seen (leads_on u.client.own ++ u.client.met) (left_over u.client.own) → HasGrown v x
-has_grown v w m u x e a y c cy alike seen m_client m_places u_client u_places own x_is e_is =
-    has_grown_on v w m u x e a y c cy (λ p h. subst (λ (ps : List Place). IsIn p ps) (sym alike.places) h) (λ s h. subst (λ (l : List Spot). IsIn s l) (sym alike.met) h) seen m_client m_places u_client u_places own x_is e_is
 
 -- the room stays while nodes are linked
 pub room_after : (v w : Seen) (start left start' left' : ℕ) → w.room ≡ v.room → start ≡ start' → left' ≤ left → HasRoom v start left → HasRoom w start' left'

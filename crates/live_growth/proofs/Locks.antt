@@ -16,10 +16,10 @@ use Rattle.live_law.specs.Views as views
 use Rattle.live_law.specs.Views.{View, Own}
 use Rattle.live_law.specs.Tree.{IsMap, LearnsLocked, IsHeld}
 use Rattle.live_law.proofs.Locks.{node_locks}
-use Rattle.live_reads.specs.Ways.{Names, AreNamed}
+use Rattle.live_reads.specs.Paths.{Names, AreNamed}
 use Rattle.live_growth.specs.Holds.{Alike, HasLocked, HoldsOne}
 use Rattle.live_reads.specs.Sees.{Sees}
-use Rattle.live_reads.specs.declared.sight.Sight.TheVariants as sights
+use Rattle.live_reads.specs.declared.prefix_match.PrefixMatch.TheVariants as prefix_matches
 use Rattle.live_reads.proofs.Views.{reading}
 use Rattle.live_reads.proofs.Sights.{sure_by}
 
@@ -58,7 +58,7 @@ module _ (v : Seen) (name key height : ℕ) (n : Names v name key height) (v₁ 
     pub not_locked : m ≢ t → Alike v v₂ × (v₂.client ≡ v.client) × (v₂.holds ≡ v.holds)
     not_locked ne = alike_read v v₂ n.spot.number t saw (tried.lost ne)
 
-    pub is_locked : m ≡ t → t % 4 ≡ 0 → t < 2 ^ 62 → key < 2 ^ 64 → (head : ℕ) → ((c : Content) → Agree c saw → cells.at c 0 ≡ head) → ((form : ℕ) (q : List ℕ) → IsHead head form q → Sees q key (sights.Covers height)) → HasLocked v v₂ name key height t
+    pub is_locked : m ≡ t → t % 4 ≡ 0 → t < 2 ^ 62 → key < 2 ^ 64 → (head : ℕ) → ((c : Content) → Agree c saw → cells.at c 0 ≡ head) → ((form : ℕ) (q : List ℕ) → IsHead head form q → Sees q key (prefix_matches.Covers height)) → HasLocked v v₂ name key height t
     is_locked hit even small fits head at_head sees =
         let w = tried.won hit in
         let h : IsHeld v.client n.spot w.0 w.1 = w.4 n.spot n.met refl in

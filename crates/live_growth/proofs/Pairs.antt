@@ -1,16 +1,16 @@
 -- Two nodes are held: one, and the node above it.
-use Rattle.std.proofs.Common.{◌≡◌, ◌≢◌, ℕ, ◌+◌, ◌<◌, ◌≤◌, Bool, true, false, cond, nat_eq, List, [], ◌∷◌, ◌++◌, length, Option, Some, None, IfSome, refl, sym, ap, ◌∙◌, subst, inr, arith, eq-eqb, ne_eqb}
+use Rattle.std.proofs.Common.{◌≡◌, ◌≢◌, ℕ, ◌+◌, ◌<◌, ◌≤◌, Bool, true, false, cond, nat_eq, List, [], ◌∷◌, length, Option, Some, None, IfSome, refl, sym, ap, ◌∙◌, subst, arith, eq-eqb, ne_eqb}
 use Rattle.node_base.specs.declared.base_node.NodeType.{NodeType}
 use Rattle.node_base.specs.declared.base_node.NodeType.TheVariants.{N4, N16, N48, N256}
 use Rattle.node_base.specs.Form.{limit, next_form}
-use Rattle.node_table.specs.TableNode.{TableNode, Child, MayHave}
-use Rattle.node_table.specs.declared.child.Child.TheVariants.{Node as Below}
+use Rattle.spec_node.specs.TableNode.{TableNode, Child, MayHave}
+use Rattle.spec_node.specs.declared.child.Child.TheVariants.{Node as Below}
 use Rattle.spec_map.specs.Map.{lookup}
 use Rattle.live_law.proofs.Joins.{Changes}
 use Rattle.live_growth.proofs.Values.{none_below}
 use Rattle.spec_map.proofs.ByteMapLaws.{length-from_Rises}
-use Rattle.live_growth.specs.Holds.{Alike, HasLocked, HoldsOne}
-use Rattle.live_reads.specs.Ways.{AreNamed}
+use Rattle.live_growth.specs.Holds.{HasLocked, HoldsOne}
+use Rattle.live_reads.specs.Paths.{AreNamed}
 use Rattle.word_book.specs.Book.{Book, Name, writes, none_joined}
 use Rattle.live_nodes.specs.Nodes.{Content}
 use Rattle.live_nodes.specs.Seats.{Place, Hold, hold, SeatView, seat_view, IsIn, Each, with_draft, without}
@@ -21,21 +21,20 @@ use Rattle.live_nodes.specs.Calls.{MayFree}
 use Rattle.live_nodes.specs.Rows.{AreOf, nth, draft_of, undrafted, MayHold, without_draft}
 use Rattle.live_layout.specs.Encodes.{words_of, HasChildren, counted, most, IsCounted, Encodes, IsBelow, IsWord, with_child}
 use Rattle.live_law.specs.Levels.{digit, Spot, name_of, place_at}
-use Rattle.live_law.specs.Views.{View, view_of, with_own, Own, locked, fresh, rest_of, Ask}
-use Rattle.live_law.specs.Tree.{IsMap, IsApart, leads_on, left_over}
-use Rattle.live_growth.specs.Rooms.{HasMade, HasGrown}
+use Rattle.live_law.specs.Views.{View, Ask}
+use Rattle.live_law.specs.Tree.{IsMap, IsApart}
 use Rattle.live_growth.proofs.Locks.{hold_head}
 
 abbrev Seen : Type 0
 Seen = SeatView View
 
-pub record Pair (v : Seen) (b : Book) (words_x words_p : List Name) (free_x free_p : ℕ) (x p : Spot) (dx dp : Content) : Type 0 where
+pub record Pair (v : Seen) (b : Book) (words_x words_p : List Name) (free_x free_p : ℕ) (x : Spot) (p : Place) (dx dp : Content) : Type 0 where
   pub holds : v.holds ≡ hold x.number (free_x + 2) dx ∷ hold p.number (free_p + 2) dp ∷ []
   pub apart : p.number ≢ x.number
   pub placed_x : IsIn (place_at x) v.places
-  pub placed_p : IsIn (place_at p) v.places
+  pub placed_p : IsIn (p) v.places
   pub are_x : AreOf (place_at x) b words_x
-  pub are_p : AreOf (place_at p) b words_p
+  pub are_p : AreOf (p) b words_p
 
 hold_number : List Hold → ℕ
 hold_number [] = 0
@@ -78,31 +77,21 @@ two_drafted (x ∷ y ∷ zs) kx mx kp mp dx ne e =
     let none : zs ≡ [] = none_drafted y.number zs (ap rest_holds second) in
     (λ i. x_is i ∷ hold (y_is i) (ap hold_word second i) y.draft ∷ none i)
 
-module _ (v : Seen) (b : Book) (words_x words_p : List Name) (free_x free_p : ℕ) (x p : Spot) (dx dp : Content) (h : Pair v b words_x words_p free_x free_p x p dx dp) where
+module _ (v : Seen) (b : Book) (words_x words_p : List Name) (free_x free_p : ℕ) (x : Spot) (p : Place) (dx dp : Content) (h : Pair v b words_x words_p free_x free_p x p dx dp) where
   hold_p : hold_of p.number v.holds ≡ Some (hold p.number (free_p + 2) dp)
   hold_p = ap (hold_of p.number) h.holds ∙ (ap (λ (t : Bool). cond t (Some (hold x.number (free_x + 2) dx)) (hold_of p.number (hold p.number (free_p + 2) dp ∷ []))) (ne_eqb p.number x.number h.apart) ∙ hold_head p.number (free_p + 2) dp [])
 
   pub pair_first : length dx ≡ words_of x.shape.form → MayHold 0 words_x b v
   pair_first long = (place_at x, hold x.number (free_x + 2) dx, h.placed_x, h.are_x, ap (nth 0) h.holds, ap (hold_of x.number) h.holds ∙ hold_head x.number (free_x + 2) dx (hold p.number (free_p + 2) dp ∷ []), long)
 
-  pub pair_second : length dp ≡ words_of p.shape.form → MayHold 1 words_p b v
-  pair_second long = (place_at p, hold p.number (free_p + 2) dp, h.placed_p, h.are_p, ap (nth 1) h.holds, hold_p, long)
+  pub pair_second : length dp ≡ p.len → MayHold 1 words_p b v
+  pair_second long = (p, hold p.number (free_p + 2) dp, h.placed_p, h.are_p, ap (nth 1) h.holds, hold_p, long)
 
   pub first_draft : draft_of (nth 0 v.holds) ≡ dx
   first_draft = ap (λ (hs : List Hold). draft_of (nth 0 hs)) h.holds
 
   pub second_draft : draft_of (nth 1 v.holds) ≡ dp
   second_draft = ap (λ (hs : List Hold). draft_of (nth 1 hs)) h.holds
-
-  pub pair_made : (w : Seen) (b' : Book) → b' ≡ b → (q : Ask) (c : Content) (form : NodeType) (name : ℕ) → HasMade q v w c form name → Pair w b' words_x words_p free_x free_p x p dx dp
-  pair_made w b' same q c form name m = record {
-    holds = m.holds ∙ h.holds;
-    apart = h.apart;
-    placed_x = subst (λ (ps : List Place). IsIn (place_at x) ps) (sym m.places) (inr h.placed_x);
-    placed_p = subst (λ (ps : List Place). IsIn (place_at p) ps) (sym m.places) (inr h.placed_p);
-    are_x = subst (λ (z : Book). AreOf (place_at x) z words_x) (sym same) h.are_x;
-    are_p = subst (λ (z : Book). AreOf (place_at p) z words_p) (sym same) h.are_p;
-  }
 
   pub pair_wrote : (w : Seen) (b' : Book) → b' ≡ b → without_draft 1 w ≡ without_draft 1 v → Pair w b' words_x words_p free_x free_p x p dx (draft_of (nth 1 w.holds))
   pair_wrote w b' same e =
@@ -114,25 +103,25 @@ module _ (v : Seen) (b : Book) (words_x words_p : List Name) (free_x free_p : �
         holds = two_drafted w.holds x.number (free_x + 2) p.number (free_p + 2) dx h.apart (ap (λ (z : Seen). z.holds) e ∙ before);
         apart = h.apart;
         placed_x = subst (λ (ps : List Place). IsIn (place_at x) ps) (sym (ap (λ (z : Seen). z.places) e)) h.placed_x;
-        placed_p = subst (λ (ps : List Place). IsIn (place_at p) ps) (sym (ap (λ (z : Seen). z.places) e)) h.placed_p;
+        placed_p = subst (λ (ps : List Place). IsIn p ps) (sym (ap (λ (z : Seen). z.places) e)) h.placed_p;
         are_x = subst (λ (z : Book). AreOf (place_at x) z words_x) (sym same) h.are_x;
-        are_p = subst (λ (z : Book). AreOf (place_at p) z words_p) (sym same) h.are_p;
+        are_p = subst (λ (z : Book). AreOf p z words_p) (sym same) h.are_p;
       }
 
-  module _ (k : ℕ) (at_k : p.shape.key ≡ k) (told : View → ℕ → Content → View → Type 0) where
+  module _ (k : ℕ) (at_k : p.key ≡ k) (told : View → ℕ → Content → View → Type 0) where
     pub pair_frees : (id n : ℕ) → acts.Frees IsMap id v.client p.number n dp (told v.client p.number dp) → MayFree v k IsMap id told (free_p + 2) n
-    pair_frees id n frees = (place_at p, hold p.number (free_p + 2) dp, (h.placed_p, at_k), hold_p, refl, frees)
+    pair_frees id n frees = (p, hold p.number (free_p + 2) dp, (h.placed_p, at_k), hold_p, refl, frees)
 
     pub pair_freed : (w : Seen) (n : ℕ) → plays.Frees told (writes k n) v n none_joined w → (e : View) × (w ≡ seat_view e v.places v.reads (hold x.number (free_x + 2) dx ∷ []) v.room) × told v.client p.number dp e
     pair_freed w n t =
-        let s = t (place_at p) (hold p.number (free_p + 2) dp) h.placed_p at_k hold_p in
+        let s = t p (hold p.number (free_p + 2) dp) h.placed_p at_k hold_p in
         let left : without p.number v.holds ≡ hold x.number (free_x + 2) dx ∷ [] = ap (without p.number) h.holds
         ∙ (ap (λ (z : Bool). cond z (without p.number (hold p.number (free_p + 2) dp ∷ [])) (hold x.number (free_x + 2) dx ∷ without p.number (hold p.number (free_p + 2) dp ∷ []))) (ne_eqb p.number x.number h.apart)
         ∙ ap (λ (z : Bool). hold x.number (free_x + 2) dx ∷ cond z [] (hold p.number (free_p + 2) dp ∷ [])) (eq-eqb p.number p.number refl)) in
         (s.0, s.1 ∙ ap (λ (hs : List Hold). seat_view s.0 v.places v.reads hs v.room) left, s.2)
 
 -- a node was locked while the one above it was held
-pub pair_locked : (v w : Seen) (b b' : Book) (words_x words_p : List Name) (free_x free_p name key height : ℕ) (h : HasLocked v w name key height free_x) (p : Spot) (c : Content) → b' ≡ b → HoldsOne v b words_p free_p p c c → AreNamed b' name words_x → Pair w b' words_x words_p free_x free_p h.names.spot p h.content c
+pub pair_locked : (v w : Seen) (b b' : Book) (words_x words_p : List Name) (free_x free_p name key height : ℕ) (h : HasLocked v w name key height free_x) (p : Spot) (c : Content) → b' ≡ b → HoldsOne v b words_p free_p p c c → AreNamed b' name words_x → Pair w b' words_x words_p free_x free_p h.names.spot (place_at p) h.content c
 pair_locked v w b b' words_x words_p free_x free_p name key height h p c same one are = record {
   holds = h.holds ∙ ap (λ (hs : List Hold). hold h.names.spot.number (free_x + 2) h.content ∷ hs) one.holds;
   apart = (subst (Each (IsApart h.names.spot.number)) one.own h.apart).0;
@@ -173,21 +162,3 @@ grown_changes q c c' same d form a y byte byte_is form_is word name is_word name
     let short : length n.prefix < 7 = omega (arith, deep, high, low) in
     subst (λ (z : ℕ × ℕ). Encodes d (with_child n z.0 (Some (Below z.1)))) (λ i. (byte_is i, named i))
     (put n (Below name) (subst (λ (z : Content). Encodes z n) (sym same) encodes) (formed ∙ sym form_is) is_word short)
-
--- what a seat knows once a node has grown
-pub widened : (v w s u m n z x' : Seen) (e e2 : View) (y x p : Spot) (cy cx cp : Content) (hs : List Hold) → Alike v w → w.client.seen ≡ v.client.seen → s ≡ w → Alike s u → u.client.seen ≡ s.client.seen
-    → m.client ≡ with_own u.client (fresh y cy ∷ u.client.own) → m.places ≡ place_at y ∷ u.places → n.client ≡ m.client → n.places ≡ m.places → n.client.own ≡ fresh y cy ∷ locked x cx ∷ locked p cp ∷ []
-    → z ≡ seat_view e n.places n.reads hs n.room → e ≡ view_of n.client.seen (leads_on n.client.own ++ n.client.met) (left_over n.client.own)
-    → x' ≡ seat_view e2 z.places z.reads [] z.room → e2 ≡ view_of z.client.seen z.client.met (rest_of z.client.own) → HasGrown v x'
-widened v w s u m n z x' e e2 y x p cy cx cp hs alike_p seen_p same alike_x seen_x m_client m_places n_client n_places own_n z_is e_is x_is e2_is =
-    let z_client = ap (λ (t : Seen). t.client) z_is ∙ e_is in
-    let x_client = ap (λ (t : Seen). t.client) x_is ∙ e2_is in
-    let places : x'.places ≡ place_at y ∷ v.places = ap (λ (t : Seen). t.places) x_is ∙ (ap (λ (t : Seen). t.places) z_is ∙ (n_places ∙ (m_places ∙ ap (λ (ps : List Place). place_at y ∷ ps) (alike_x.places ∙ (ap (λ (t : Seen). t.places) same ∙ alike_p.places))))) in
-    let old_met : u.client.met ≡ v.client.met = alike_x.met ∙ (ap (λ (t : Seen). t.client.met) same ∙ alike_p.met) in
-    let met : x'.client.met ≡ y ∷ v.client.met = ap (λ (t : View). t.met) x_client ∙ (ap (λ (t : View). t.met) z_client ∙ (ap (λ (os : List Own). leads_on os ++ n.client.met) own_n ∙ ap (λ (l : List Spot). y ∷ l) (ap (λ (t : View). t.met) (n_client ∙ m_client) ∙ old_met))) in record {
-      own = ap (λ (t : View). t.own) x_client ∙ (ap (λ (t : View). rest_of t.own) z_client ∙ ap (λ (os : List Own). rest_of (left_over os)) own_n);
-      holds = ap (λ (t : Seen). t.holds) x_is;
-      places = λ q h. subst (λ (ps : List Place). IsIn q ps) (sym places) (inr h);
-      met = λ a h. subst (λ (l : List Spot). IsIn a l) (sym met) (inr h);
-      seen = ap (λ (t : View). t.seen) x_client ∙ (ap (λ (t : View). t.seen) z_client ∙ (ap (λ (t : View). t.seen) (n_client ∙ m_client) ∙ (seen_x ∙ (ap (λ (t : Seen). t.client.seen) same ∙ seen_p))));
-    }

@@ -10,12 +10,12 @@ use Rattle.live_law.specs.Views.{View, view_of}
 use Rattle.live_law.specs.Tree.{Answers}
 use Rattle.live_law.specs.Known.{Known, MadeCall}
 use Rattle.live_law.proofs.Histories.{its_own}
-use Rattle.live_reads.specs.Ways.{Names, Sights, Keeps}
+use Rattle.live_reads.specs.Paths.{Names, Sights, Leaves, Keeps}
 use Rattle.live_growth.specs.Holds.{HasRest}
 use Rattle.live_growth.specs.Rooms.{HasRoom, HasGrown}
-use Rattle.live_growth.specs.Spares.{slot_of, HasSpares}
+use Rattle.live_growth.specs.FreeNodes.{slot_of, HasFreeNodes}
 use Rattle.live_growth.specs.declared.link.Room.{Room}
-use Rattle.live_growth.specs.declared.spare.Spares.{Spares}
+use Rattle.live_growth.specs.declared.free_nodes.FreeNodes.{FreeNodes}
 use Rattle.live_growth.specs.Calls.{IsReady, known_of}
 
 abbrev Seen : Type 0
@@ -27,27 +27,39 @@ room_same v w s l e r = record { count = r.count; enough = r.enough; is = e ∙ 
 sights_kept : (v w : Seen) (n : ℕ) → ((p : Place) → IsIn p v.places → IsIn p w.places) → ((a : Spot) → IsIn a v.client.met → IsIn a w.client.met) → Sights v n → Sights w n
 sights_kept v w n places met s = record { spot = s.spot; met = met s.spot s.met; placed = places (place_at s.spot) s.placed; named = s.named }
 
-spares_kept : (v w : Seen) (s : Spares) → ((p : Place) → IsIn p v.places → IsIn p w.places) → ((a : Spot) → IsIn a v.client.met → IsIn a w.client.met) → HasSpares v s → HasSpares w s
+free_nodes_kept : (v w : Seen) (s : FreeNodes) → ((p : Place) → IsIn p v.places → IsIn p w.places) → ((a : Spot) → IsIn a v.client.met → IsIn a w.client.met) → HasFreeNodes v s → HasFreeNodes w s
 unfolding sights_kept
-spares_kept v w s places met h = (
+free_nodes_kept v w s places met h = (
   (λ form some. let i = h.0 form some in record { sighted = sights_kept v w (slot_of s form) places met i.sighted; in_form = i.in_form }),
   (λ some. let i = h.1 some in record { sighted = sights_kept v w s.second places met i.sighted; in_form = i.in_form }),
   (λ some. sights_kept v w s.more places met (h.2 some)),
 )
 
-pub spares_last : (v w : Seen) (s : Spares) → Keeps v w → HasSpares v s → HasSpares w s
-spares_last v w s k h = spares_kept v w s k.places k.met h
+pub free_nodes_last : (v w : Seen) (s : FreeNodes) → Keeps v w → HasFreeNodes v s → HasFreeNodes w s
+free_nodes_last v w s k h = free_nodes_kept v w s k.places k.met h
 
-pub spares_grown : (v w : Seen) (s : Spares) → HasGrown v w → HasSpares v s → HasSpares w s
-spares_grown v w s g h = spares_kept v w s g.places g.met h
+pub free_nodes_grown : (v w : Seen) (s : FreeNodes) → HasGrown v w → HasFreeNodes v s → HasFreeNodes w s
+free_nodes_grown v w s g h = free_nodes_kept v w s g.places g.met h
 
 pub sights_grown : (v w : Seen) (n key height : ℕ) → HasGrown v w → Names v n key height → Sights w n
 sights_grown v w n key height g s = record { spot = s.spot; met = g.met s.spot s.met; placed = g.places (place_at s.spot) s.placed; named = s.named }
 
+pub leaves_grown : (v w : Seen) (name key height byte : ℕ) → HasGrown v w → Leaves v name key height byte → Leaves w name key height byte
+leaves_grown v w name key height byte g l = record {
+  sighted = record { spot = l.sighted.spot; met = g.met l.sighted.spot l.sighted.met; placed = g.places (place_at l.sighted.spot) l.sighted.placed; named = l.sighted.named };
+  some_height = l.some_height;
+  lower = l.lower;
+  level = l.level;
+  top = l.top;
+  low = l.low;
+  byte_is = l.byte_is;
+  other = l.other;
+}
+
 -- a new seat
-pub ready_new : (v : Seen) (s : Spares) → v ≡ seat_view (view_of [] [] []) (place 0 1 1 ∷ []) [] [] no_room → ((u : Seen) → HasSpares u s) → IsReady v (record { start = 0; left = 0; spare = s; owed = None })
-ready_new v s e has = subst (λ (u : Seen). IsReady u (record { start = 0; left = 0; spare = s; owed = None })) (sym e) record {
-  trunk = inl refl;
+pub ready_new : (v : Seen) (s : FreeNodes) → v ≡ seat_view (view_of [] [] []) (place 0 1 1 ∷ []) [] [] no_room → ((u : Seen) → HasFreeNodes u s) → IsReady v (record { start = 0; left = 0; spare = s; cleanup_due = None })
+ready_new v s e has = subst (λ (u : Seen). IsReady u (record { start = 0; left = 0; spare = s; cleanup_due = None })) (sym e) record {
+  root_word = inl refl;
   own = refl;
   holds = refl;
   words = record { count = 0; enough = omega arith; is = refl };
@@ -56,17 +68,17 @@ ready_new v s e has = subst (λ (u : Seen). IsReady u (record { start = 0; left 
 
 pub ready_kept : (v w : Seen) (m : Room) → IsReady v m → Keeps v w → IsReady w m
 ready_kept v w m r k = record {
-  trunk = k.places (place 0 1 1) r.trunk;
+  root_word = k.places (place 0 1 1) r.root_word;
   own = k.own ∙ r.own;
   holds = k.holds ∙ r.holds;
   words = room_same v w m.start m.left k.room r.words;
-  spare = spares_kept v w m.spare k.places k.met r.spare;
+  spare = free_nodes_kept v w m.spare k.places k.met r.spare;
 }
 
 -- and has other words, and other nodes to use again
-pub ready_with : (v w : Seen) (m m' : Room) → IsReady v m → HasGrown v w → HasRoom w m'.start m'.left → HasSpares w m'.spare → IsReady w m'
+pub ready_with : (v w : Seen) (m m' : Room) → IsReady v m → HasGrown v w → HasRoom w m'.start m'.left → HasFreeNodes w m'.spare → IsReady w m'
 ready_with v w m m' r g words spare = record {
-  trunk = g.places (place 0 1 1) r.trunk;
+  root_word = g.places (place 0 1 1) r.root_word;
   own = g.own;
   holds = g.holds;
   words = words;
@@ -74,31 +86,31 @@ ready_with v w m m' r g words spare = record {
 }
 
 pub ready_grown : (v w : Seen) (m m' : Room) → IsReady v m → HasGrown v w → HasRoom w m'.start m'.left → m'.spare ≡ m.spare → IsReady w m'
-ready_grown v w m m' r g words same = ready_with v w m m' r g words (subst (HasSpares w) (sym same) (spares_grown v w m.spare g r.spare))
+ready_grown v w m m' r g words same = ready_with v w m m' r g words (subst (HasFreeNodes w) (sym same) (free_nodes_grown v w m.spare g r.spare))
 
 -- and another node may be used again
-pub ready_spare : (v : Seen) (m : Room) (s : Spares) → IsReady v m → HasSpares v s → IsReady v (record m { spare = s })
-ready_spare v m s r spare = record { trunk = r.trunk; own = r.own; holds = r.holds; words = r.words; spare = spare }
+pub ready_spare : (v : Seen) (m : Room) (s : FreeNodes) → IsReady v m → HasFreeNodes v s → IsReady v (record m { spare = s })
+ready_spare v m s r spare = record { root_word = r.root_word; own = r.own; holds = r.holds; words = r.words; spare = spare }
 
--- and the way of a key is still to be tidied
-pub ready_owed : (v : Seen) (m : Room) (key : Option ℕ) → IsReady v m → IsReady v (record m { owed = key })
-ready_owed v m key r = record { trunk = r.trunk; own = r.own; holds = r.holds; words = r.words; spare = r.spare }
+-- and the path of a key is still to be tidied
+pub ready_cleanup_due : (v : Seen) (m : Room) (key : Option ℕ) → IsReady v m → IsReady v (record m { cleanup_due = key })
+ready_cleanup_due v m key r = record { root_word = r.root_word; own = r.own; holds = r.holds; words = r.words; spare = r.spare }
 
 -- and another node is in use again
-pub ready_again : (v w : Seen) (m : Room) (s : Spares) → IsReady v m → HasGrown v w → w.room ≡ v.room → ((u : Seen) → HasSpares u m.spare → HasSpares u s) → IsReady w (record m { spare = s })
-ready_again v w m s r g room left = ready_with v w m (record m { spare = s }) r g (room_same v w m.start m.left room r.words) (left w (spares_grown v w m.spare g r.spare))
+pub ready_again : (v w : Seen) (m : Room) (s : FreeNodes) → IsReady v m → HasGrown v w → w.room ≡ v.room → ((u : Seen) → HasFreeNodes u m.spare → HasFreeNodes u s) → IsReady w (record m { spare = s })
+ready_again v w m s r g room left = ready_with v w m (record m { spare = s }) r g (room_same v w m.start m.left room r.words) (left w (free_nodes_grown v w m.spare g r.spare))
 
-pub ready_again_met : (v w : Seen) (m : Room) (s : Spares) (n : ℕ) → IsReady v m → HasGrown v w → w.room ≡ v.room → Sights v n → ((u : Seen) → HasSpares u m.spare → Sights u n → HasSpares u s) → IsReady w (record m { spare = s })
-ready_again_met v w m s n r g room met left = ready_with v w m (record m { spare = s }) r g (room_same v w m.start m.left room r.words) (left w (spares_grown v w m.spare g r.spare) (sights_kept v w n g.places g.met met))
+pub ready_again_met : (v w : Seen) (m : Room) (s : FreeNodes) (n : ℕ) → IsReady v m → HasGrown v w → w.room ≡ v.room → Sights v n → ((u : Seen) → HasFreeNodes u m.spare → Sights u n → HasFreeNodes u s) → IsReady w (record m { spare = s })
+ready_again_met v w m s n r g room met left = ready_with v w m (record m { spare = s }) r g (room_same v w m.start m.left room r.words) (left w (free_nodes_grown v w m.spare g r.spare) (sights_kept v w n g.places g.met met))
 
 pub ready_rest : (v w : Seen) (m : Room) → IsReady v m → HasRest v w → IsReady w m
 ready_rest v w m r h =
     let places = λ (p : Place) (i : IsIn p v.places). subst (λ (ps : List Place). IsIn p ps) (sym h.alike.places) i in record {
-      trunk = places (place 0 1 1) r.trunk;
+      root_word = places (place 0 1 1) r.root_word;
       own = h.own;
       holds = h.holds;
       words = room_same v w m.start m.left h.alike.room r.words;
-      spare = spares_kept v w m.spare places (λ a i. subst (λ (l : List Spot). IsIn a l) (sym h.alike.met) i) r.spare;
+      spare = free_nodes_kept v w m.spare places (λ a i. subst (λ (l : List Spot). IsIn a l) (sym h.alike.met) i) r.spare;
     }
 
 pub some_by : {A : Type 0} (o : Option A) (x : A) → o ≡ Some x → (P : A → Type 0) → IfSome o P → P x
@@ -108,11 +120,11 @@ some_by {A} o x e P h = subst (λ (z : Option A). IfSome z P) e h
 pub ready_given : (v w : Seen) (m : Room) (start count : ℕ) → IsReady v m → w ≡ given v start count → IsReady w (record m { start = start; left = count })
 ready_given v w m start count r e =
     let places = λ (p : Place) (i : IsIn p v.places). subst (λ (ps : List Place). IsIn p ps) (sym (ap (λ (z : Seen). z.places) e)) i in record {
-      trunk = places (place 0 1 1) r.trunk;
+      root_word = places (place 0 1 1) r.root_word;
       own = ap (λ (z : Seen). z.client.own) e ∙ r.own;
       holds = ap (λ (z : Seen). z.holds) e ∙ r.holds;
       words = record { count = count; enough = omega arith; is = ap (λ (z : Seen). z.room) e };
-      spare = spares_kept v w m.spare places (λ a i. subst (λ (l : List Spot). IsIn a l) (sym (ap (λ (z : Seen). z.client.met) e)) i) r.spare;
+      spare = free_nodes_kept v w m.spare places (λ a i. subst (λ (l : List Spot). IsIn a l) (sym (ap (λ (z : Seen). z.client.met) e)) i) r.spare;
     }
 
 -- and another caller is met
@@ -120,11 +132,11 @@ pub ready_met : (v w : Seen) (e : View) (m : Room) → IsReady v m → {s : List
 ready_met v w e m r {s} w_is e_is =
     let client = ap (λ (z : Seen). z.client) w_is ∙ e_is in
     let places = λ (p : Place) (i : IsIn p v.places). subst (λ (ps : List Place). IsIn p ps) (sym (ap (λ (z : Seen). z.places) w_is)) i in record {
-      trunk = places (place 0 1 1) r.trunk;
+      root_word = places (place 0 1 1) r.root_word;
       own = ap (λ (z : View). z.own) client ∙ r.own;
       holds = ap (λ (z : Seen). z.holds) w_is ∙ r.holds;
       words = room_same v w m.start m.left (ap (λ (z : Seen). z.room) w_is) r.words;
-      spare = spares_kept v w m.spare places (λ a i. subst (λ (l : List Spot). IsIn a l) (sym (ap (λ (z : View). z.met) client)) i) r.spare;
+      spare = free_nodes_kept v w m.spare places (λ a i. subst (λ (l : List Spot). IsIn a l) (sym (ap (λ (z : View). z.met) client)) i) r.spare;
     }
 
 -- a call that has its answer

@@ -10,10 +10,10 @@ use Rattle.live_nodes.specs.Calls.{MayFree}
 use Rattle.live_nodes.specs.Rows.{AreOf, nth, draft_of, undrafted, MayHold, without_draft}
 use Rattle.live_layout.specs.Encodes.{words_of}
 use Rattle.live_law.specs.Levels.{Spot, place_at}
-use Rattle.live_law.specs.Views.{View, view_of, Own, locked, outgrown, rest_of, Ask}
+use Rattle.live_law.specs.Views.{View, view_of, Own, locked, detached, rest_of, Ask}
 use Rattle.live_law.specs.Tree.{IsMap, IsApart, again, leads_again, left_again}
-use Rattle.live_reads.specs.Ways.{AreNamed}
-use Rattle.live_growth.specs.Holds.{HasRegained, IsBeside}
+use Rattle.live_reads.specs.Paths.{AreNamed}
+use Rattle.live_growth.specs.Holds.{HasReclaimed, IsBeside}
 use Rattle.live_growth.specs.Rooms.{HasGrown}
 use Rattle.live_growth.proofs.Locks.{hold_head}
 use Rattle.live_growth.proofs.Pairs.{Pair}
@@ -54,9 +54,9 @@ three_drafted (x ∷ y ∷ z ∷ zs) a b k m na nb e =
     let none : zs ≡ [] = none_drafted z.number zs (ap rest_holds third) in
     (λ i. x_is i ∷ y_is i ∷ hold (z_is i) (ap hold_word third i) z.draft ∷ none i)
 
-pub triple_regained : (v w : Seen) (b b' : Book) (words_r words_x words_p : List Name) (free_r free_x free_p name : ℕ) (h : HasRegained v w name free_r) (x p : Spot) (cx cp dx dp : Content) → b' ≡ b → Pair v b words_x words_p free_x free_p x p dx dp → v.client.own ≡ locked x cx ∷ locked p cp ∷ [] → AreNamed b' name words_r
+pub triple_reclaimed : (v w : Seen) (b b' : Book) (words_r words_x words_p : List Name) (free_r free_x free_p name : ℕ) (h : HasReclaimed v w name free_r) (x p : Spot) (cx cp dx dp : Content) → b' ≡ b → Pair v b words_x words_p free_x free_p x (place_at p) dx dp → v.client.own ≡ locked x cx ∷ locked p cp ∷ [] → AreNamed b' name words_r
     → Triple w b' words_r words_x words_p free_r free_x free_p h.spot x p h.content dx dp
-triple_regained v w b b' words_r words_x words_p free_r free_x free_p name h x p cx cp dx dp same pair own are =
+triple_reclaimed v w b b' words_r words_x words_p free_r free_x free_p name h x p cx cp dx dp same pair own are =
     let apart = subst (Each (IsApart h.spot.number)) own h.apart in record {
       holds = h.holds ∙ ap (λ (hs : List Hold). hold h.spot.number (free_r + 2) h.content ∷ hs) pair.holds;
       x_r = apart.0;
@@ -146,7 +146,7 @@ module _ {v : Seen} {b : Book} {words_r words_x words_p : List Name} {free_r fre
         (s.0, s.1 ∙ ap (λ (hs : List Hold). seat_view s.0 v.places v.reads hs v.room) left, s.2)
 
 -- what a seat knows once a node has grown into one that is used again
-pub regrown : (v n z y t : Seen) (e e2 e3 : View) (q : Ask) (cy : Content) (r x p : Spot) (cx cp : Content) (hs gs : List Hold) → n.places ≡ v.places → n.client.met ≡ v.client.met → n.client.seen ≡ v.client.seen → n.client.own ≡ outgrown r ∷ locked x cx ∷ locked p cp ∷ []
+pub regrown : (v n z y t : Seen) (e e2 e3 : View) (q : Ask) (cy : Content) (r x p : Spot) (cx cp : Content) (hs gs : List Hold) → n.places ≡ v.places → n.client.met ≡ v.client.met → n.client.seen ≡ v.client.seen → n.client.own ≡ detached r ∷ locked x cx ∷ locked p cp ∷ []
     → z ≡ seat_view e n.places n.reads hs n.room → e ≡ view_of n.client.seen (leads_again q n.client.own ++ n.client.met) (left_again q cy n.client.own)
     → y ≡ seat_view e2 z.places z.reads gs z.room → e2 ≡ view_of z.client.seen z.client.met (rest_of z.client.own)
     → t ≡ seat_view e3 y.places y.reads [] y.room → e3 ≡ view_of y.client.seen y.client.met (rest_of y.client.own) → HasGrown v t

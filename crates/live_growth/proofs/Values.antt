@@ -1,7 +1,7 @@
 -- What a leaf has under a byte.
 use Rattle.std.proofs.Common.{◌≡◌, ℕ, Option, Some, None, IsSome, rules, IfSome, IfNone, refl, sym, ◌∙◌, subst}
-use Rattle.node_table.specs.TableNode.{Child}
-use Rattle.node_table.specs.declared.child.Child.TheVariants.{Payload, Node as Below}
+use Rattle.spec_node.specs.TableNode.{Child}
+use Rattle.spec_node.specs.declared.child.Child.TheVariants.{Payload, Node as Below}
 use Rattle.live_layout.specs.Encodes.{IsBelow, payload_of}
 use Rattle.live_law.specs.Tree.{HasValue}
 

@@ -5,9 +5,9 @@ use Rattle.live_nodes.specs.Seats.{SeatView}
 use Rattle.live_law.specs.Views.{View, Ask, inserted}
 use Rattle.live_law.specs.Known.{Known}
 use Rattle.live_law.specs.Tree.{Answers}
-use Rattle.live_reads.specs.Ways.{KnowsTrunk}
+use Rattle.live_reads.specs.Paths.{KnowsRootWord}
 use Rattle.live_growth.specs.Rooms.{HasRoom}
-use Rattle.live_growth.specs.Spares.{HasSpares}
+use Rattle.live_growth.specs.FreeNodes.{HasFreeNodes}
 use Rattle.live_growth.specs.declared.link.Room.{Room}
 use Rattle.live_growth.specs.declared.map.Refusal.{Refusal}
 
@@ -17,11 +17,11 @@ known_of b id v = record { book = b; caller = id; seen = v.client.seen }
 
 -- A seat between two calls: it has nothing to itself but some room, and knows nodes that may be used again.
 pub record IsReady (v : SeatView View) (room : Room) : Type 0 where
-  pub trunk : KnowsTrunk v
+  pub root_word : KnowsRootWord v
   pub own : v.client.own ≡ []
   pub holds : v.holds ≡ []
   pub words : HasRoom v room.start room.left
-  pub spare : HasSpares v room.spare
+  pub spare : HasFreeNodes v room.spare
 
 -- An insertion is done, or the seat has seen no more.
 abbrev pub Inserts : Ask → Result (Option ℕ) Refusal → SeatView View → SeatView View → Type 0

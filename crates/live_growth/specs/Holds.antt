@@ -1,18 +1,18 @@
 -- What a seat has locked.
 use Rattle.std.specs.Prelude.{◌≡◌, ◌≢◌, ℕ, zero, suc, ◌+◌, ◌%◌, ◌<◌, ◌^◌, List, [], ◌∷◌, length, Option, Some, None}
 use Rattle.node_base.specs.declared.base_node.NodeType.{NodeType}
-use Rattle.node_table.specs.TableNode.{TableNode}
-use Rattle.node_table.specs.declared.child.Child.TheVariants.{Payload, Node}
+use Rattle.spec_node.specs.TableNode.{TableNode}
+use Rattle.spec_node.specs.declared.child.Child.TheVariants.{Payload, Node}
 use Rattle.spec_map.specs.Map.{lookup}
 use Rattle.word_book.specs.Book.{Book, Name}
 use Rattle.live_nodes.specs.Nodes.{Content}
-use Rattle.live_nodes.specs.Seats.{Hold, hold, SeatView, IsIn, Each}
+use Rattle.live_nodes.specs.Seats.{place, Hold, hold, SeatView, IsIn, Each}
 use Rattle.live_nodes.specs.Rows.{AreOf}
 use Rattle.live_layout.specs.Encodes.{words_of, Encodes, IsBelow, IsWord, with_child}
 use Rattle.live_law.specs.Levels.{Spot, name_of, place_at}
-use Rattle.live_law.specs.Views.{View, locked, outgrown, Ask, inserted}
+use Rattle.live_law.specs.Views.{View, view_of, locked, detached, root_word, Ask, inserted}
 use Rattle.live_law.specs.Tree.{HasValue, IsApart, Answers}
-use Rattle.live_reads.specs.Ways.{Names}
+use Rattle.live_reads.specs.Paths.{Names}
 
 -- The seat knows the same, but for what it has to itself.
 pub record Alike (v w : SeatView View) : Type 0 where
@@ -38,12 +38,12 @@ pub record HasLocked (v w : SeatView View) (name key height free : ℕ) : Type 0
   pub apart : Each (IsApart names.spot.number) v.client.own
 
 -- An obsolete node of that name was locked again. Its word is locked by the version of this one.
-pub record HasRegained (v w : SeatView View) (name free : ℕ) : Type 0 where
+pub record HasReclaimed (v w : SeatView View) (name free : ℕ) : Type 0 where
   pub spot : Spot
   pub named : name ≡ name_of spot.shape
   pub content : Content
   pub long : length content ≡ words_of spot.shape.form
-  pub own : w.client.own ≡ outgrown spot ∷ v.client.own
+  pub own : w.client.own ≡ detached spot ∷ v.client.own
   pub holds : w.holds ≡ hold spot.number (free + 2) content ∷ v.holds
   pub placed : IsIn (place_at spot) w.places
   pub alike : Alike v w
@@ -51,6 +51,23 @@ pub record HasRegained (v w : SeatView View) (name free : ℕ) : Type 0 where
   pub even : free % 4 ≡ 0
   pub small : free < 2 ^ 63
   pub apart : Each (IsApart spot.number) v.client.own
+
+-- The root word was locked, which was free by that word.
+pub record HasRootWord (v w : SeatView View) (free : ℕ) : Type 0 where
+  pub content : Content
+  pub long : length content ≡ 1
+  pub client : w.client ≡ view_of v.client.seen v.client.met (root_word content ∷ v.client.own)
+  pub holds : w.holds ≡ hold 0 (free + 2) content ∷ v.holds
+  pub alike : Alike v w
+  pub even : free % 4 ≡ 0
+  pub small : free < 2 ^ 62
+
+-- It holds the root word alone, which is in these words.
+pub record HoldsRootWord (v : SeatView View) (b : Book) (words : List Name) (free : ℕ) (c : Content) : Type 0 where
+  pub own : v.client.own ≡ root_word c ∷ []
+  pub holds : v.holds ≡ hold 0 (free + 2) c ∷ []
+  pub placed : IsIn (place 0 1 1) v.places
+  pub are : AreOf (place 0 1 1) b words
 
 -- the number of the n-th hold, the last one first
 abbrev pub number_at : ℕ → List Hold → ℕ

@@ -1,4 +1,4 @@
 pub mod Calls
 pub mod Holds
 pub mod Rooms
-pub mod Spares
+pub mod FreeNodes

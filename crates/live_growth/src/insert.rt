@@ -1,19 +1,20 @@
 //! An insertion.
 ghost use Rattle.std.specs.Prelude.{◌≡◌, ◌<◌, ◌≤◌, Some};
 ghost use Rattle.live_law.specs.Views.{ask};
-ghost use Rattle.live_reads.specs.Stands.{Stands, HasFork};
+ghost use Rattle.live_reads.specs.Positions.{KnowsPosition, HasMismatch};
 ghost use Rattle.live_growth.specs.Rooms.{HasGrown};
 ghost use Rattle.live_growth.specs.Calls.{IsReady, Inserts};
 
-use crate::link::{Room, link, link_again};
+use crate::grow_node::grow_node;
+use crate::link::{NEW, Room, link};
 use crate::map::Refusal;
-use crate::split::{split, split_again};
-use crate::widen::{widen, widen_again};
+use crate::room::spare_or_made;
+use crate::split::split;
 use crate::write::{Hindrance, insert_here};
-use live_layout::form::form_below;
-use live_reads::descend::{End, Stand, descend};
-use live_reads::sight::Fork;
-use live_reads::way::{Nodes, Pass};
+use live_layout::form::{form_below, next_of};
+use live_reads::descend::{End, Position, descend};
+use live_reads::path::{Nodes, Seat};
+use live_reads::prefix_match::Mismatch;
 use std::alloc::{AllocError, Global};
 use std::marker::Brand;
 
@@ -23,18 +24,18 @@ pub fn reserve(
     nodes: &Nodes,
     alloc: Global,
     room: &mut Room,
-    pass: &mut Pass,
+    seat: &mut Seat,
 ) -> Result<bool, AllocError>
-    requires book { pass.old.book ≡ nodes.now }
-    requires ready { IsReady pass.old.view room.old }
-    ensures told { (pass.new.book ≡ pass.old.book) × (pass.new.id ≡ pass.old.id)
-        × IsReady pass.new.view room.new
-        × (pass.new.view.client.seen ≡ pass.old.view.client.seen) }
+    requires book { seat.old.book ≡ nodes.now }
+    requires ready { IsReady seat.old.view room.old }
+    ensures told { (seat.new.book ≡ seat.old.book) × (seat.new.id ≡ seat.old.id)
+        × IsReady seat.new.view room.new
+        × (seat.new.view.client.seen ≡ seat.old.view.client.seen) }
 {
     if room.left >= 263 || room.spare.is_full() {
         return Ok(true);
     }
-    let Some(grown) = nodes.grow(alloc, pass)? else {
+    let Some(grown) = nodes.grow(alloc, seat)? else {
         return Ok(false);
     };
     room.start = grown.start;
@@ -42,98 +43,107 @@ pub fn reserve(
     Ok(true)
 }
 
-/// Puts a larger node in the place of this one, below the node above. A node that may be used again is taken, where there is
-/// one of that form. `false` where a writer came in between.
-fn replace(nodes: &Nodes, stand: Stand, key: u64, room: &mut Room, pass: &mut Pass) -> bool
-    requires book { pass.old.book ≡ nodes.now }
-    requires ready { IsReady pass.old.view room.old }
-    requires stands { Stands pass.old.view key stand }
-    requires lower { stand.height < 8 }
-    ensures told { (pass.new.book ≡ pass.old.book) × (pass.new.id ≡ pass.old.id)
-        × IsReady pass.new.view room.new × HasGrown pass.old.view pass.new.view }
+/// Puts a larger node in the place of this one, below the node above. A node that may be used again is taken, where there is one,
+/// or one of the next form is made. `false` where a writer came in between, or there is neither.
+fn replace(nodes: &Nodes, position: Position, key: u64, room: &mut Room, seat: &mut Seat) -> bool
+    requires book { seat.old.book ≡ nodes.now }
+    requires ready { IsReady seat.old.view room.old }
+    requires position { KnowsPosition seat.old.view key position }
+    requires lower { position.height < 8 }
+    ensures told { (seat.new.book ≡ seat.old.book) × (seat.new.id ≡ seat.old.id)
+        × IsReady seat.new.view room.new × HasGrown seat.old.view seat.new.view }
 {
-    let Stand {
+    let Position {
         above,
         level,
         name,
         height,
-    } = stand;
-    let spare = room.spare_above(form_below(name));
+    } = position;
+    let form = form_below(name);
+    let spare = spare_or_made(nodes, room.spare_above(form), next_of(form), room, seat);
     if spare == 0 {
-        return widen::<Brand>(nodes, above, level, name, height, key, room, pass);
+        return false;
     }
-    let spares = &mut room.spare;
-    widen_again::<Brand>(nodes, above, level, name, height, key, spare, spares, pass)
+    let free_nodes = &mut room.spare;
+    grow_node::<Brand>(
+        nodes, above, level, name, height, key, spare, free_nodes, seat,
+    )
 }
 
 /// Puts a larger node in the place of a full one, which may be used again. The root has the largest form, and stays. Whether
 /// a node is lacking for that.
-pub fn enlarge(nodes: &Nodes, stand: Stand, key: u64, room: &mut Room, pass: &mut Pass) -> bool
-    requires book { pass.old.book ≡ nodes.now }
-    requires ready { IsReady pass.old.view room.old }
-    requires stands { Stands pass.old.view key stand }
-    ensures told { (pass.new.book ≡ pass.old.book) × (pass.new.id ≡ pass.old.id)
-        × IsReady pass.new.view room.new
-        × (pass.new.view.client.seen ≡ pass.old.view.client.seen) }
+pub fn enlarge(
+    nodes: &Nodes,
+    position: Position,
+    key: u64,
+    room: &mut Room,
+    seat: &mut Seat,
+) -> bool
+    requires book { seat.old.book ≡ nodes.now }
+    requires ready { IsReady seat.old.view room.old }
+    requires position { KnowsPosition seat.old.view key position }
+    ensures told { (seat.new.book ≡ seat.old.book) × (seat.new.id ≡ seat.old.id)
+        × IsReady seat.new.view room.new
+        × (seat.new.view.client.seen ≡ seat.old.view.client.seen) }
 {
-    if stand.height >= 8 {
+    if position.height >= 8 {
         return false;
     }
-    if room.lacks(room.spare_above(form_below(stand.name))) {
+    if room.lacks(room.spare_above(form_below(position.name))) {
         return true;
     }
-    if replace(nodes, stand, key, room, pass) {
-        let _ = room.spare.keep(stand.name);
+    if replace(nodes, position, key, room, seat) {
+        let _ = room.spare.keep(position.name);
     }
     false
 }
 
-/// Makes an empty leaf for a key below a node. A node that may be used again is taken, where there is one.
+/// Makes an empty leaf for a key below a node. A node that may be used again is taken, where there is one, or one is made.
 fn lead_on(
     nodes: &Nodes,
-    stand: Stand,
+    position: Position,
     key: u64,
     room: &mut Room,
-    pass: &mut Pass,
+    seat: &mut Seat,
 ) -> Result<(), Hindrance>
-    requires book { pass.old.book ≡ nodes.now }
-    requires ready { IsReady pass.old.view room.old }
-    requires stands { Stands pass.old.view key stand }
-    requires inner { 2 ≤ stand.height }
-    ensures told { (pass.new.book ≡ pass.old.book) × (pass.new.id ≡ pass.old.id)
-        × IsReady pass.new.view room.new × HasGrown pass.old.view pass.new.view }
+    requires book { seat.old.book ≡ nodes.now }
+    requires ready { IsReady seat.old.view room.old }
+    requires position { KnowsPosition seat.old.view key position }
+    requires inner { 2 ≤ position.height }
+    ensures told { (seat.new.book ≡ seat.old.book) × (seat.new.id ≡ seat.old.id)
+        × IsReady seat.new.view room.new × HasGrown seat.old.view seat.new.view }
 {
-    let spare = room.spare_for_new();
+    let spare = spare_or_made(nodes, room.spare_for_new(), NEW, room, seat);
     if spare == 0 {
-        return link::<Brand>(nodes, stand.name, stand.height, key, room, pass);
+        return Err(Hindrance::Busy);
     }
-    link_again::<Brand>(
+    link::<Brand>(
         nodes,
-        stand.name,
-        stand.height,
+        position.name,
+        position.height,
         key,
         spare,
         &mut room.spare,
-        pass,
+        seat,
     )
 }
 
-/// Brings a key's way nearer to its leaf: by a new leaf, or by room for one. Whether a node is lacking for that.
-pub fn extend(nodes: &Nodes, stand: Stand, key: u64, room: &mut Room, pass: &mut Pass) -> bool
-    requires book { pass.old.book ≡ nodes.now }
-    requires ready { IsReady pass.old.view room.old }
-    requires stands { Stands pass.old.view key stand }
-    requires inner { 2 ≤ stand.height }
-    ensures told { (pass.new.book ≡ pass.old.book) × (pass.new.id ≡ pass.old.id)
-        × IsReady pass.new.view room.new
-        × (pass.new.view.client.seen ≡ pass.old.view.client.seen) }
+/// Brings a key's path nearer to its leaf: by a new leaf, or by room for one. Whether a node is lacking for that.
+pub fn extend(nodes: &Nodes, position: Position, key: u64, room: &mut Room, seat: &mut Seat) -> bool
+    requires book { seat.old.book ≡ nodes.now }
+    requires ready { IsReady seat.old.view room.old }
+    requires position { KnowsPosition seat.old.view key position }
+    requires inner { 2 ≤ position.height }
+    ensures told { (seat.new.book ≡ seat.old.book) × (seat.new.id ≡ seat.old.id)
+        × IsReady seat.new.view room.new
+        × (seat.new.view.client.seen ≡ seat.old.view.client.seen) }
 {
     if room.lacks(room.spare_for_new()) {
         return true;
     }
-    match lead_on(nodes, stand, key, room, pass) {
+    match lead_on(nodes, position, key, room, seat) {
         Ok(()) => false,
-        Err(Hindrance::Full) => enlarge(nodes, stand, key, room, pass),
+        Err(Hindrance::Full) => enlarge(nodes, position, key, room, seat),
         Err(Hindrance::Busy) => false,
     }
 }
@@ -151,55 +161,63 @@ fn refusal_of(lacks: bool) -> Refusal {
 /// where a node is lacking.
 fn insert_at(
     nodes: &Nodes,
-    stand: Stand,
+    position: Position,
     key: u64,
     value: u64,
     room: &mut Room,
-    pass: &mut Pass,
+    seat: &mut Seat,
 ) -> Result<Option<u64>, Refusal>
-    requires book { pass.old.book ≡ nodes.now }
-    requires ready { IsReady pass.old.view room.old }
-    requires stands { Stands pass.old.view key stand }
-    requires leaf { stand.height ≡ 1 }
-    ensures told { (pass.new.book ≡ pass.old.book) × (pass.new.id ≡ pass.old.id)
-        × IsReady pass.new.view room.new
-        × Inserts (ask pass.old.id key value 1) result pass.old.view pass.new.view }
+    requires book { seat.old.book ≡ nodes.now }
+    requires ready { IsReady seat.old.view room.old }
+    requires position { KnowsPosition seat.old.view key position }
+    requires leaf { position.height ≡ 1 }
+    ensures told { (seat.new.book ≡ seat.old.book) × (seat.new.id ≡ seat.old.id)
+        × IsReady seat.new.view room.new
+        × Inserts (ask seat.old.id key value 1) result seat.old.view seat.new.view }
 {
-    match insert_here::<Brand>(nodes, stand.name, key, value, pass) {
+    match insert_here::<Brand>(nodes, position.name, key, value, seat) {
         Ok(old) => Ok(old),
-        Err(Hindrance::Full) => Err(refusal_of(enlarge(nodes, stand, key, room, pass))),
+        Err(Hindrance::Full) => Err(refusal_of(enlarge(nodes, position, key, room, seat))),
         Err(Hindrance::Busy) => Err(Refusal::Busy),
     }
 }
 
-/// Makes a node where the key's way leaves that of a node below. A node that may be used again is taken, where there is one.
-/// Whether a node is lacking for that. A writer may have come in between, and the key be present: then it needs none.
+/// Makes a node where the key's path leaves that of a node below. A node that may be used again is taken, where there is one, or one
+/// is made. Whether a node is lacking for that. A writer may have come in between, and the key be present: then it needs none.
 pub fn part(
     nodes: &Nodes,
-    stand: Stand,
-    fork: Fork,
+    position: Position,
+    mismatch: Mismatch,
     key: u64,
     room: &mut Room,
-    pass: &mut Pass,
+    seat: &mut Seat,
 ) -> bool
-    requires book { pass.old.book ≡ nodes.now }
-    requires ready { IsReady pass.old.view room.old }
-    requires stands { Stands pass.old.view key stand }
-    requires forks { HasFork pass.old.view key stand.height (Some fork) }
-    ensures told { (pass.new.book ≡ pass.old.book) × (pass.new.id ≡ pass.old.id)
-        × IsReady pass.new.view room.new
-        × (pass.new.view.client.seen ≡ pass.old.view.client.seen) }
+    requires book { seat.old.book ≡ nodes.now }
+    requires ready { IsReady seat.old.view room.old }
+    requires position { KnowsPosition seat.old.view key position }
+    requires mismatches { HasMismatch seat.old.view key position.height (Some mismatch) }
+    ensures told { (seat.new.book ≡ seat.old.book) × (seat.new.id ≡ seat.old.id)
+        × IsReady seat.new.view room.new
+        × (seat.new.view.client.seen ≡ seat.old.view.client.seen) }
 {
-    let spare = room.spare_for_new();
-    if room.lacks(spare) {
+    if room.lacks(room.spare_for_new()) {
         return true;
     }
+    let spare = spare_or_made(nodes, room.spare_for_new(), NEW, room, seat);
     if spare == 0 {
-        let _ = split::<Brand>(nodes, stand.name, stand.height, fork, key, room, pass);
         return false;
     }
-    let Stand { name, height, .. } = stand;
-    let _ = split_again::<Brand>(nodes, name, height, fork, key, spare, &mut room.spare, pass);
+    let Position { name, height, .. } = position;
+    let _ = split::<Brand>(
+        nodes,
+        name,
+        height,
+        mismatch,
+        key,
+        spare,
+        &mut room.spare,
+        seat,
+    );
     false
 }
 
@@ -210,22 +228,22 @@ pub(crate) fn insert_once(
     key: u64,
     value: u64,
     room: &mut Room,
-    pass: &mut Pass,
+    seat: &mut Seat,
 ) -> Result<Option<u64>, Refusal>
-    requires book { pass.old.book ≡ nodes.now }
-    requires ready { IsReady pass.old.view room.old }
-    ensures told { (pass.new.book ≡ pass.old.book) × (pass.new.id ≡ pass.old.id)
-        × IsReady pass.new.view room.new
-        × Inserts (ask pass.old.id key value 1) result pass.old.view pass.new.view }
+    requires book { seat.old.book ≡ nodes.now }
+    requires ready { IsReady seat.old.view room.old }
+    ensures told { (seat.new.book ≡ seat.old.book) × (seat.new.id ≡ seat.old.id)
+        × IsReady seat.new.view room.new
+        × Inserts (ask seat.old.id key value 1) result seat.old.view seat.new.view }
 {
-    let Some(End { stand, fork }) = descend(nodes, key, pass) else {
+    let Some(End { position, mismatch }) = descend(nodes, key, seat) else {
         return Err(Refusal::Busy);
     };
-    if let Some(fork) = fork {
-        return Err(refusal_of(part(nodes, stand, fork, key, room, pass)));
+    if let Some(mismatch) = mismatch {
+        return Err(refusal_of(part(nodes, position, mismatch, key, room, seat)));
     }
-    if stand.height > 1 {
-        return Err(refusal_of(extend(nodes, stand, key, room, pass)));
+    if position.height > 1 {
+        return Err(refusal_of(extend(nodes, position, key, room, seat)));
     }
-    insert_at(nodes, stand, key, value, room, pass)
+    insert_at(nodes, position, key, value, room, seat)
 }

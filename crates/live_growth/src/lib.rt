@@ -8,14 +8,14 @@
 //! Tested in `test_live_calls`.
 #![tactic(auto)]
 
+pub mod free_nodes;
+pub mod grow_node;
 pub mod held;
 pub mod insert;
 pub mod link;
+pub mod make_root;
 pub mod map;
-pub mod plant;
 pub mod room;
 pub mod source;
-pub mod spare;
 pub mod split;
-pub mod widen;
 pub mod write;

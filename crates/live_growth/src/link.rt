@@ -1,28 +1,27 @@
 //! A new node comes below another.
 ghost use Rattle.std.specs.Prelude.{◌≡◌, ℕ, ◌≤◌, [], length, None, IfNone};
-ghost use Rattle.node_table.specs.TableNode.{TableNode};
+ghost use Rattle.spec_node.specs.TableNode.{TableNode};
 ghost use Rattle.spec_map.specs.Map.{lookup};
 ghost use Rattle.live_layout.specs.Words.{Looks};
 ghost use Rattle.live_layout.specs.Encodes.{words_of, Encodes, HasRoom as HasSpace};
 ghost use Rattle.live_nodes.specs.Seats.{SeatView};
 ghost use Rattle.live_law.specs.Views.{View};
-ghost use Rattle.live_reads.specs.Ways.{Names, Sights};
-ghost use Rattle.live_growth.specs.Spares.{HasSpares};
-ghost use Rattle.live_growth.specs.Rooms.{HasRoom, HasGrown};
+ghost use Rattle.live_reads.specs.Paths.{Names, Sights};
+ghost use Rattle.live_growth.specs.FreeNodes.{HasFreeNodes};
+ghost use Rattle.live_growth.specs.Rooms.{HasGrown};
 
-use crate::held::{lock_node, regain, unlock_again, unlock_same};
-use crate::room::make_empty;
-use crate::spare::Spares;
+use crate::free_nodes::FreeNodes;
+use crate::held::{lock_node, reclaim, unlock_again, unlock_same};
 use crate::write::Hindrance;
-use live_law::law::{Asks, Levels, Link, Mine, Same};
+use live_law::law::{Asks, MapLaw, MapView, Same};
 use live_layout::change::{is_full, put};
 use live_layout::fill::lay;
 use live_layout::form::{form_below, next_of, word_below, words_in};
 use live_layout::search::find;
-use live_layout::words::{Draft, Drafted};
+use live_layout::words::{AsReadWords, WriteWords};
 use live_nodes::node;
-use live_nodes::rows::Held;
-use live_reads::way::{Nodes, Pass, byte_at, bytes_of, words_at};
+use live_nodes::rows::LockedWords;
+use live_reads::path::{Nodes, Seat, byte_at, bytes_of, words_at};
 use node_base::base_node::NodeType;
 use std::marker::Brand;
 
@@ -30,20 +29,21 @@ use std::marker::Brand;
 pub const NEW: NodeType = NodeType::N4;
 
 /// A seat's room: the first of its words, how many there are at least, and nodes that it may use again. With it a key is kept
-/// whose way may lead to a node without children, since a writer came in between.
+/// whose path may lead to a node without children, since a writer came in between.
 #[derive(Clone, Copy, Debug, PartialEq, Eq)]
 pub struct Room {
     pub start: u64,
     pub left: u64,
-    pub spare: Spares,
-    pub owed: Option<u64>,
+    pub spare: FreeNodes,
+    pub cleanup_due: Option<u64>,
 }
 
 impl Room {
     /// The name of the node that is the next new one: of the smallest form, or of a larger one where there is neither such a
     /// one nor room. 0 for none.
     pub fn spare_for_new(&self) -> u64
-        ensures { (v : SeatView View) → HasSpares v self.now.spare → 1 ≤ result → Sights v result }
+        ensures { (v : SeatView View) → HasFreeNodes v self.now.spare → 1 ≤ result
+            → Sights v result }
     {
         let spare = self.spare.smallest();
         if !self.lacks(spare) {
@@ -59,7 +59,8 @@ impl Room {
     /// The name of the node that takes the place of a full one of this form: of the next form, or of a larger one where there is
     /// neither such a one nor room. 0 for none.
     pub fn spare_above(&self, form: NodeType) -> u64
-        ensures { (v : SeatView View) → HasSpares v self.now.spare → 1 ≤ result → Sights v result }
+        ensures { (v : SeatView View) → HasFreeNodes v self.now.spare → 1 ≤ result
+            → Sights v result }
     {
         let spare = self.spare.get(next_of(form));
         if self.lacks(spare) {
@@ -75,7 +76,7 @@ impl Room {
 }
 
 /// Why no child can be put under a byte: there is one, or no room. `None` where it can.
-fn obstacle<S, D: Draft<S>>(
+fn obstacle<S, D: WriteWords<S>>(
     draft: &D,
     form: NodeType,
     byte: u8,
@@ -89,7 +90,7 @@ fn obstacle<S, D: Draft<S>>(
         → lookup n.children byte ≡ None)) }
 {
     let long = words_in(form);
-    let cells = Drafted { draft, long };
+    let cells = AsReadWords { draft, long };
     if find(&cells, form, byte, seat).is_some() {
         return Some(Ok(()));
     }
@@ -99,74 +100,28 @@ fn obstacle<S, D: Draft<S>>(
     None
 }
 
-/// Makes an empty leaf for a key below this node, where there is none.
+/// Makes an empty leaf for a key below this node, where there is none, of an obsolete node. The name of that one is kept as a spare
+/// one until it is locked.
 pub fn link<A: Asks>(
     nodes: &Nodes,
     name: u64,
     height: usize,
     key: u64,
-    room: &mut Room,
-    pass: &mut Pass,
-) -> Result<(), Hindrance>
-    requires book { pass.old.book ≡ nodes.now }
-    requires asks { (A.ask.key ≡ key) × (A.ask.height ≡ 1) }
-    requires named { Names pass.old.view name key height }
-    requires height { (2 ≤ height) × (height ≤ 8) }
-    requires rests { (pass.old.view.client.own ≡ []) × (pass.old.view.holds ≡ []) }
-    requires room { HasRoom pass.old.view room.old.start room.old.left }
-    ensures told { (pass.new.book ≡ pass.old.book) × (pass.new.id ≡ pass.old.id)
-        × HasGrown pass.old.view pass.new.view
-        × HasRoom pass.new.view room.new.start room.new.left
-        × (room.new.spare ≡ room.old.spare) }
-{
-    if room.start >= 1 << 48 || room.left < 263 {
-        return Err(Hindrance::Busy);
-    }
-    let Some(words) = words_at(nodes, name) else {
-        return Err(Hindrance::Busy);
-    };
-    let Some(others) = nodes.span(room.start, words_in(NEW) + 1) else {
-        return Err(Hindrance::Busy);
-    };
-    let form = form_below(name);
-    let byte = byte_at(key, height);
-    let Some(free) = lock_node(words, name, height, key, pass) else {
-        return Err(Hindrance::Busy);
-    };
-    let held: Held<'_, Mine, Levels, 0> = Held { words };
-    if let Some(end) = obstacle(&held, form, byte, pass) {
-        unlock_same(words, free, pass);
-        return end;
-    }
-    let child = make_empty::<A>(others, room.start, NEW, key, 1, pass);
-    room.start += words_in(NEW) as u64 + 1;
-    room.left -= words_in(NEW) as u64 + 1;
-    put(&held, form, byte, word_below(child, NEW), pass);
-    node::unlock::<Mine, Levels, Link>(&words[0], free, pass);
-    Ok(())
-}
-
-/// Makes an empty leaf for a key below this node, where there is none, of a node that is used again. Its name is kept as a spare
-/// one until it is locked.
-pub fn link_again<A: Asks>(
-    nodes: &Nodes,
-    name: u64,
-    height: usize,
-    key: u64,
     spare: u64,
-    spares: &mut Spares,
-    pass: &mut Pass,
+    free_nodes: &mut FreeNodes,
+    seat: &mut Seat,
 ) -> Result<(), Hindrance>
-    requires book { pass.old.book ≡ nodes.now }
+    requires book { seat.old.book ≡ nodes.now }
     requires asks { (A.ask.key ≡ key) × (A.ask.height ≡ 1) }
-    requires named { Names pass.old.view name key height }
+    requires named { Names seat.old.view name key height }
     requires height { (2 ≤ height) × (height ≤ 8) }
-    requires rests { (pass.old.view.client.own ≡ []) × (pass.old.view.holds ≡ []) }
-    requires spare { Sights pass.old.view spare }
-    ensures told { (pass.new.book ≡ pass.old.book) × (pass.new.id ≡ pass.old.id)
-        × HasGrown pass.old.view pass.new.view
-        × (pass.new.view.room ≡ pass.old.view.room) }
-    ensures spares { (v : SeatView View) → HasSpares v spares.old → HasSpares v spares.new }
+    requires rests { (seat.old.view.client.own ≡ []) × (seat.old.view.holds ≡ []) }
+    requires spare { Sights seat.old.view spare }
+    ensures told { (seat.new.book ≡ seat.old.book) × (seat.new.id ≡ seat.old.id)
+        × HasGrown seat.old.view seat.new.view
+        × (seat.new.view.room ≡ seat.old.view.room) }
+    ensures free_nodes { (v : SeatView View) → HasFreeNodes v free_nodes.old
+        → HasFreeNodes v free_nodes.new }
 {
     if spare >= 1 << 56 {
         return Err(Hindrance::Busy);
@@ -181,24 +136,24 @@ pub fn link_again<A: Asks>(
     let kind = form_below(spare);
     let byte = byte_at(key, height);
     let bytes = bytes_of(key);
-    let Some(free) = lock_node(words, name, height, key, pass) else {
+    let Some(free) = lock_node(words, name, height, key, seat) else {
         return Err(Hindrance::Busy);
     };
-    let parent: Held<'_, Mine, Levels, 0> = Held { words };
-    if let Some(end) = obstacle(&parent, form, byte, pass) {
-        unlock_same(words, free, pass);
+    let parent: LockedWords<'_, MapView, MapLaw, 0> = LockedWords { words };
+    if let Some(end) = obstacle(&parent, form, byte, seat) {
+        unlock_same(words, free, seat);
         return end;
     }
-    spares.forget(spare);
-    let Some(again) = regain(others, spare, pass) else {
-        unlock_same(words, free, pass);
+    free_nodes.forget(spare);
+    let Some(again) = reclaim(others, spare, seat) else {
+        unlock_same(words, free, seat);
         return Err(Hindrance::Busy);
     };
-    let child: Held<'_, Mine, Levels, 0> = Held { words: others };
-    lay(&child, kind, &bytes[..7], pass);
-    let held: Held<'_, Mine, Levels, 1> = Held { words };
-    put(&held, form, byte, word_below(spare, kind), pass);
-    unlock_again::<A, Brand>(&words[0], free, pass);
-    node::unlock::<Mine, Levels, Same>(&others[0], again, pass);
+    let child: LockedWords<'_, MapView, MapLaw, 0> = LockedWords { words: others };
+    lay(&child, kind, &bytes[..7], seat);
+    let held: LockedWords<'_, MapView, MapLaw, 1> = LockedWords { words };
+    put(&held, form, byte, word_below(spare, kind), seat);
+    unlock_again::<A, Brand>(&words[0], free, seat);
+    node::unlock::<MapView, MapLaw, Same>(&others[0], again, seat);
     Ok(())
 }

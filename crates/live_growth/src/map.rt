@@ -5,14 +5,14 @@ ghost use Rattle.live_law.specs.Views.{ask, got, inserted};
 ghost use Rattle.live_law.specs.Known.{MadeCall};
 ghost use Rattle.live_reads.specs.Meetings.{SeenMore};
 
+use crate::free_nodes::FreeNodes;
 use crate::insert::{insert_once, reserve};
 use crate::link::Room;
-use crate::plant::plant;
-use crate::spare::Spares;
+use crate::make_root::make_root;
 use live_nodes::heap::Heap;
 use live_reads::get::get_once;
 use live_reads::meeting::meet;
-use live_reads::way::{Nodes, Pass};
+use live_reads::path::{Nodes, Seat};
 use std::alloc::{AllocError, Global};
 use std::marker::{Brand, Model};
 
@@ -52,8 +52,8 @@ impl Model for Congee {
 /// Its fields are public for the crates that add calls. A program reads and writes none of them.
 #[derive(Drop)]
 pub struct Guard {
-    /// Its seat, which knows the trunk and has nothing locked.
-    pub pass: Pass,
+    /// Its seat, which knows the root word and has nothing locked.
+    pub seat: Seat,
     /// Where it makes new nodes.
     pub room: Room,
 }
@@ -64,9 +64,9 @@ impl Model for Guard {
 
     ghost Value = { Known };
 
-    ghost view = { λ g. known_of g.pass.book g.pass.id g.pass.view };
+    ghost view = { λ g. known_of g.seat.book g.seat.id g.seat.view };
 
-    ghost invariant = { λ g. IsReady g.pass.view g.room };
+    ghost invariant = { λ g. IsReady g.seat.view g.room };
 }
 
 impl Guard {
@@ -78,7 +78,7 @@ impl Guard {
         ensures one { self.new.seen ≡ other.new.seen }
         ensures differ { self.old.caller ≢ other.old.caller }
     {
-        meet::<Brand>(&mut self.pass, &mut other.pass)
+        meet::<Brand>(&mut self.seat, &mut other.seat)
     }
 }
 
@@ -96,15 +96,15 @@ impl Congee {
         ensures limit { IfOk result (λ map. map.limit ≡ limit) }
     {
         let nodes: Nodes = Heap::with_limit(alloc, 1, limit)?;
-        let mut pass = nodes.enter();
+        let mut seat = nodes.enter();
         let mut room = Room {
             start: 0,
             left: 0,
-            spare: Spares::none(),
-            owed: None,
+            spare: FreeNodes::none(),
+            cleanup_due: None,
         };
-        let _ = reserve(&nodes, alloc, &mut room, &mut pass)?;
-        if !plant::<Brand>(&nodes, &mut room, &mut pass) {
+        let _ = reserve(&nodes, alloc, &mut room, &mut seat)?;
+        if !make_root::<Brand>(&nodes, &mut room, &mut seat) {
             return Err(AllocError);
         }
         Ok(Congee { nodes })
@@ -131,12 +131,12 @@ impl Congee {
         ensures { (result.book ≡ self.now) × (result.seen ≡ []) }
     {
         Guard {
-            pass: self.nodes.enter(),
+            seat: self.nodes.enter(),
             room: Room {
                 start: 0,
                 left: 0,
-                spare: Spares::none(),
-                owed: None,
+                spare: FreeNodes::none(),
+                cleanup_due: None,
             },
         }
     }
@@ -149,7 +149,7 @@ impl Congee {
         ensures busy { OnErr result (guard.new ≡ guard.old) }
     {
         for _ in 0..TRIES {
-            if let Some(found) = get_once::<Brand>(&self.nodes, key, &mut guard.pass) {
+            if let Some(found) = get_once::<Brand>(&self.nodes, key, &mut guard.seat) {
                 return Ok(found);
             }
         }
@@ -170,8 +170,8 @@ impl Congee {
         ensures refused { OnErr result (guard.new ≡ guard.old) }
     {
         for _ in 0..TRIES {
-            let lacks = reserve(&self.nodes, alloc, &mut guard.room, &mut guard.pass).is_err();
-            match insert_once(&self.nodes, key, value, &mut guard.room, &mut guard.pass) {
+            let lacks = reserve(&self.nodes, alloc, &mut guard.room, &mut guard.seat).is_err();
+            match insert_once(&self.nodes, key, value, &mut guard.room, &mut guard.seat) {
                 Ok(old) => return Ok(old),
                 Err(Refusal::OutOfMemory) if lacks => return Err(Refusal::OutOfMemory),
                 Err(_) => {}

@@ -2,10 +2,10 @@
 ghost use Rattle.live_nodes.specs.Rows.{draft_of, nth, MayHold, without_draft};
 ghost use Rattle.live_growth.specs.Holds.{IsBeside};
 
-use live_law::law::{Levels, Mine};
-use live_layout::words::Draft;
-use live_nodes::rows::Held;
-use live_reads::way::{Cell, Pass};
+use live_law::law::{MapLaw, MapView};
+use live_layout::words::WriteWords;
+use live_nodes::rows::LockedWords;
+use live_reads::path::{Cell, Seat};
 
 /// The words of the node that the seat locked before the last one. They stay where that one's are written.
 #[derive(Drop)]
@@ -13,20 +13,20 @@ pub struct Source<'a> {
     pub words: &'a [Cell],
 }
 
-impl<'a> Draft<Pass> for Source<'a> {
+impl<'a> WriteWords<Seat> for Source<'a> {
     ghost may_write = { λ r s. MayHold 1 r.words.now s.book s.view × IsBeside s.view.holds };
 
     ghost words = { λ r s. draft_of (nth 1 s.view.holds) };
 
     ghost rest = { λ r s. record s { view = without_draft 1 s.view } };
 
-    fn get(&self, i: usize, seat: &mut Pass) -> u64 {
-        let held: Held<'_, Mine, Levels, 1> = Held { words: self.words };
+    fn get(&self, i: usize, seat: &mut Seat) -> u64 {
+        let held: LockedWords<'_, MapView, MapLaw, 1> = LockedWords { words: self.words };
         held.get(i, seat)
     }
 
-    fn set(&self, i: usize, word: u64, seat: &mut Pass) {
-        let held: Held<'_, Mine, Levels, 1> = Held { words: self.words };
+    fn set(&self, i: usize, word: u64, seat: &mut Seat) {
+        let held: LockedWords<'_, MapView, MapLaw, 1> = LockedWords { words: self.words };
         held.set(i, word, seat)
     }
 }

@@ -1,23 +1,23 @@
 //! A value is written into a leaf.
 ghost use Rattle.std.specs.Prelude.{◌≡◌, ℕ, [], length, IfOk, OnErr};
-ghost use Rattle.node_table.specs.TableNode.{TableNode};
+ghost use Rattle.spec_node.specs.TableNode.{TableNode};
 ghost use Rattle.live_layout.specs.Words.{Stays};
 ghost use Rattle.live_layout.specs.Encodes.{words_of, Encodes};
-ghost use Rattle.live_reads.specs.Ways.{Names};
+ghost use Rattle.live_reads.specs.Paths.{Names};
 ghost use Rattle.live_growth.specs.Holds.{HasRest, IsWritten, IsDone};
 
 use crate::held::{lock_node, unlock_same};
-use live_law::law::{Asks, Insert, Levels, Mine};
+use live_law::law::{Asks, Insert, MapLaw, MapView};
 use live_layout::change::{change, is_full, put};
 use live_layout::form::form_below;
-use live_layout::words::Draft;
+use live_layout::words::WriteWords;
 use live_nodes::node;
-use live_nodes::rows::Held;
-use live_reads::way::{Nodes, Pass, byte_at, words_at};
+use live_nodes::rows::LockedWords;
+use live_reads::path::{Nodes, Seat, byte_at, words_at};
 use node_base::base_node::NodeType;
 
 /// Gives a byte of a leaf a value: the one before. `None` where there is no room, and then nothing is written.
-fn write<S, D: Draft<S>>(
+fn write<S, D: WriteWords<S>>(
     draft: &D,
     form: NodeType,
     byte: u8,
@@ -55,30 +55,30 @@ pub fn insert_here<A: Asks>(
     name: u64,
     key: u64,
     value: u64,
-    pass: &mut Pass,
+    seat: &mut Seat,
 ) -> Result<Option<u64>, Hindrance>
-    requires book { pass.old.book ≡ nodes.now }
-    requires asks { (A.ask.key ≡ key) × (A.ask.value ≡ value) × (A.ask.caller ≡ pass.old.id) }
-    requires named { Names pass.old.view name key 1 }
-    requires rests { (pass.old.view.client.own ≡ []) × (pass.old.view.holds ≡ []) }
-    ensures told { (pass.new.book ≡ pass.old.book) × (pass.new.id ≡ pass.old.id)
-        × HasRest pass.old.view pass.new.view
-        × IfOk result (λ old. IsDone A.ask old pass.old.view pass.new.view)
-        × OnErr result (pass.new.view.client.seen ≡ pass.old.view.client.seen) }
+    requires book { seat.old.book ≡ nodes.now }
+    requires asks { (A.ask.key ≡ key) × (A.ask.value ≡ value) × (A.ask.caller ≡ seat.old.id) }
+    requires named { Names seat.old.view name key 1 }
+    requires rests { (seat.old.view.client.own ≡ []) × (seat.old.view.holds ≡ []) }
+    ensures told { (seat.new.book ≡ seat.old.book) × (seat.new.id ≡ seat.old.id)
+        × HasRest seat.old.view seat.new.view
+        × IfOk result (λ old. IsDone A.ask old seat.old.view seat.new.view)
+        × OnErr result (seat.new.view.client.seen ≡ seat.old.view.client.seen) }
 {
     let Some(words) = words_at(nodes, name) else {
         return Err(Hindrance::Busy);
     };
     let form = form_below(name);
     let byte = byte_at(key, 1);
-    let Some(free) = lock_node(words, name, 1, key, pass) else {
+    let Some(free) = lock_node(words, name, 1, key, seat) else {
         return Err(Hindrance::Busy);
     };
-    let held: Held<'_, Mine, Levels, 0> = Held { words };
-    let Some(old) = write(&held, form, byte, value, pass) else {
-        unlock_same(words, free, pass);
+    let held: LockedWords<'_, MapView, MapLaw, 0> = LockedWords { words };
+    let Some(old) = write(&held, form, byte, value, seat) else {
+        unlock_same(words, free, seat);
         return Err(Hindrance::Full);
     };
-    node::unlock::<Mine, Levels, Insert<A>>(&words[0], free, pass);
+    node::unlock::<MapView, MapLaw, Insert<A>>(&words[0], free, seat);
     Ok(old)
 }

@@ -1,4 +1,4 @@
--- A map begins with a trunk that names no root, and a seat may come at any time.
+-- A map begins with a root word that names no root, and a seat may come at any time.
 use Rattle.std.proofs.Common.{◌≡◌, ◌⊎◌, ⊎_elim, ℕ, zero, suc, ◌≤◌, List, [], ◌∷◌, ◌++◌, length, length-append, None, refl, sym, subst, inl, inr, arith}
 use mathlib.Core.Option.{some, some-ne-none}
 use lib.ListN.{get_elem?}
@@ -43,7 +43,7 @@ abbrev nodes : List Node
 nodes = node_at 1 0 (0 ∷ []) None ∷ []
 
 abbrev plan : Plan
-plan = record { shape = λ _. record { key = 0; form = N4; height = 0; top = 0 }; home = λ _ _. 0; maker = λ _. None }
+plan = record { shape = λ _. record { key = 0; form = N4; height = 0; top = 0 }; home = λ _ _. 0 }
 
 abbrev contents : ℕ → Content
 contents _ = []
@@ -56,8 +56,8 @@ begins = record {
   pairs = [];
   legal = refl;
   nodes = record {
-    some_trunk = omega arith;
-    trunk_long = refl;
+    some_root_word = omega arith;
+    root_word_long = refl;
     placed = λ k some_node low. absurd (omega (arith, some_node, low));
     long = λ k some_node low. absurd (omega (arith, some_node, low));
     apart = λ j k some_j some_k low lower. absurd (omega (arith, some_j, low));

@@ -1,4 +1,4 @@
--- What the trunk's check teaches: the root is met, and who begins enters this.
+-- What the root word's check teaches: the root is met, and who begins enters this.
 use Rattle.std.proofs.Common.{◌≡◌, ⊎_elim, ℕ, ◌-◌, List, [], ◌∷◌, ◌++◌, set, refl, sym, ap, ◌∙◌, subst, arith}
 use mathlib.Core.Option.{some}
 use lib.ListN.{get_elem?}

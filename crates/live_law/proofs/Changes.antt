@@ -10,7 +10,7 @@ use Rattle.live_nodes.proofs.Frames.{each_map, node_here, node_else}
 use Rattle.live_nodes.specs.Nodes.{Content, at, Node, node}
 use Rattle.live_nodes.specs.Seats.{Each}
 use Rattle.live_law.specs.Levels.{Spot}
-use Rattle.live_law.specs.Views.{View, Watch, Own, locked, fresh, outgrown, trunk}
+use Rattle.live_law.specs.Views.{View, Watch, Own, locked, detached, root_word}
 use Rattle.live_law.specs.Tree.{Plan, home_of, IsFree, NamesRoot, IsCurrent, IsSpot, IsMet, IsBound, NoLater, IsWatched, IsOwn, IsApart, Knows, AreNodes, AreAlive, IsSettled, IsTree, IsMap}
 
 -- ANOTHER MAP, which all other seats know as well as the one before
@@ -79,15 +79,15 @@ module _ (d : Plan) (ns : List Node) (k : ℕ) (b : Node) (low : k < length ns) 
 
   pub nodes_stay : AreNodes d ns → AreNodes d changed
   nodes_stay n = record {
-    some_trunk = low_stays 0 n.some_trunk;
-    trunk_long = long_stays 0 ∙ n.trunk_long;
+    some_root_word = low_stays 0 n.some_root_word;
+    root_word_long = long_stays 0 ∙ n.root_word_long;
     placed = λ j some_node l. place_stays j ∙ n.placed j some_node (omega (arith, l, length-set ns k b));
     long = λ j some_node l. long_stays j ∙ n.long j some_node (omega (arith, l, length-set ns k b));
     apart = λ i j some_i some_j l m. n.apart i j some_i some_j (omega (arith, l, length-set ns k b)) (omega (arith, m, length-set ns k b));
   }
 
   pub spot_stays : (a : Spot) → IsSpot d ns a → IsSpot d changed a
-  spot_stays a s = record { below_trunk = s.below_trunk; low = low_stays a.number s.low; key = s.key; form = s.form }
+  spot_stays a s = record { below_root_word = s.below_root_word; low = low_stays a.number s.low; key = s.key; form = s.form }
 
   -- What it has is there, and it isn't obsolete where it is current.
   pub settled_stays : (cs cs' : ℕ → Content) → IsSettled ns cs → (1 ≤ k → b.holder ≡ None → b.content ≡ cs' k) → ((j : ℕ) → j ≢ k → cs' j ≡ cs j) → IsSettled changed cs'
@@ -100,19 +100,18 @@ module _ (d : Plan) (ns : List Node) (k : ℕ) (b : Node) (low : k < length ns) 
       (λ e. subst IsFree (sym (is_here j e)) (here (subst (λ (z : ℕ). 1 ≤ z) e some_node) (subst (λ (z : ℕ). home_of d (d.shape z) ≡ z) e at_home) (sym (ap (λ (z : Node). z.holder) (is_here j e)) ∙ free)))
       (λ ne. subst IsFree (sym (is_else j ne)) (s j some_node (omega (arith, l, length-set ns k b)) at_home (sym (ap (λ (z : Node). z.holder) (is_else j ne)) ∙ free)))
 
-  pub met_stays : (1 ≤ k → d.maker k ≡ None → IsFree b → home_of d (d.shape k) ≡ k) → (a : Spot) → IsMet d ns a → IsMet d changed a
+  pub met_stays : (1 ≤ k → IsFree b → home_of d (d.shape k) ≡ k) → (a : Spot) → IsMet d ns a → IsMet d changed a
   met_stays if_free a m = record {
     spot = spot_stays a m.spot;
-    linked = m.linked;
     lasts = m.lasts;
     current = dite (ℕ_discrete a.number k)
-        (λ e f. subst (λ (z : ℕ). home_of d (d.shape z) ≡ z) (sym e) (if_free (subst (λ (z : ℕ). 1 ≤ z) e m.spot.below_trunk) (ap d.maker (sym e) ∙ m.linked) (subst IsFree (is_here a.number e) f)))
+        (λ e f. subst (λ (z : ℕ). home_of d (d.shape z) ≡ z) (sym e) (if_free (subst (λ (z : ℕ). 1 ≤ z) e m.spot.below_root_word) (subst IsFree (is_here a.number e) f)))
         (λ ne f. m.current (subst IsFree (is_else a.number ne) f));
   }
 
   pub watch_stays : (node ns k).word < b.word → (j : ℕ) → b.holder ≢ Some j → (x : Watch) → IsWatched d ns j x → IsWatched d changed j x
   watch_stays rises j not_mine x w = record {
-    below_trunk = w.below_trunk;
+    below_root_word = w.below_root_word;
     low = low_stays x.above w.low;
     later = dite (ℕ_discrete x.above k)
         (λ e. subst (NoLater x.word) (sym (is_here x.above e)) (no_later x.word (node ns k) b rises (subst (λ (z : ℕ). NoLater x.word (node ns z)) e w.later)))
@@ -123,7 +122,7 @@ module _ (d : Plan) (ns : List Node) (k : ℕ) (b : Node) (low : k < length ns) 
   }
 
   -- what a seat has to itself, where the node isn't among it
-  module _ (if_free : 1 ≤ k → d.maker k ≡ None → IsFree b → home_of d (d.shape k) ≡ k) (cs cs' : ℕ → Content) (else : (j : ℕ) → j ≢ k → cs' j ≡ cs j) (j : ℕ) where
+  module _ (if_free : 1 ≤ k → IsFree b → home_of d (d.shape k) ≡ k) (cs cs' : ℕ → Content) (else : (j : ℕ) → j ≢ k → cs' j ≡ cs j) (j : ℕ) where
     pub own_stays : (o : Own) → IsApart k o → IsOwn d ns cs j o → IsOwn d changed cs' j o
     own_stays (locked a c) ne h = record {
       met = met_stays if_free a h.met;
@@ -132,20 +131,12 @@ module _ (d : Plan) (ns : List Node) (k : ℕ) (b : Node) (low : k < length ns) 
       content = else a.number ne ∙ h.content;
       current = h.current;
     }
-    own_stays (fresh a c) ne h = record {
+    own_stays (detached a) ne h = record {
       spot = spot_stays a h.spot;
-      shaped = h.shaped;
-      maker = h.maker;
-      free = subst IsFree (sym (is_else a.number ne)) h.free;
-      content = else a.number ne ∙ h.content;
-    }
-    own_stays (outgrown a) ne h = record {
-      spot = spot_stays a h.spot;
-      linked = h.linked;
       holder = ap (λ (z : Node). z.holder) (is_else a.number ne) ∙ h.holder;
       replaced = h.replaced;
     }
-    own_stays (trunk c) ne h = (
+    own_stays (root_word c) ne h = (
       ap (λ (z : Node). z.holder) (is_else 0 ne) ∙ h.0,
       ap (λ (z : Node). z.content) (is_else 0 ne) ∙ h.1,
     )
@@ -155,15 +146,14 @@ module _ (d : Plan) (ns : List Node) (k : ℕ) (b : Node) (low : k < length ns) 
     each_stays (o ∷ os) ne h = (own_stays o ne.0 h.0, each_stays os ne.1 h.1)
 
   -- what another seat has isn't this node
-  module _ (cs : ℕ → Content) (j : ℕ) (no_holder : (node ns k).holder ≢ Some j) (no_maker : 1 ≤ k → d.maker k ≢ Some j) where
+  module _ (cs : ℕ → Content) (j : ℕ) (no_holder : (node ns k).holder ≢ Some j) where
     others : (a : ℕ) → (node ns a).holder ≡ Some j → a ≢ k
     others a h e = no_holder (ap (λ (z : ℕ). (node ns z).holder) (sym e) ∙ h)
 
     pub apart_from : (o : Own) → IsOwn d ns cs j o → IsApart k o
     apart_from (locked a c) h = others a.number h.holder
-    apart_from (fresh a c) h = λ e. no_maker (let s = h.spot.below_trunk in omega (arith, s, e)) (ap d.maker (sym e) ∙ h.maker)
-    apart_from (outgrown a) h = others a.number h.holder
-    apart_from (trunk c) h = others 0 h.0
+    apart_from (detached a) h = others a.number h.holder
+    apart_from (root_word c) h = others 0 h.0
 
   -- THE TREE, with the same nodes current
   pub tree_stays : (cs cs' : ℕ → Content) (m m' : Pairs ℕ) → IsTree d ns cs m
@@ -176,7 +166,7 @@ module _ (d : Plan) (ns : List Node) (k : ℕ) (b : Node) (low : k < length ns) 
         (λ e. subst (λ (z : Node). NamesRoot d (at z.content 0)) (sym (is_here 0 e)) (root (sym e)))
         (λ ne. subst (λ (z : Node). NamesRoot d (at z.content 0)) (sym (is_else 0 ne)) t.root);
     rooted = t.rooted;
-    housed = λ h s some_node. let w = t.housed h s some_node in record { low = low_stays (d.home h s) w.low; linked = w.linked; level = w.level; some_height = w.some_height; below = w.below };
+    housed = λ h s some_node. let w = t.housed h s some_node in record { low = low_stays (d.home h s) w.low; level = w.level; some_height = w.some_height; below = w.below };
     upward = t.upward;
     skips = t.skips;
     current = λ j some_node here. dite (ℕ_discrete j k)

@@ -1,19 +1,19 @@
--- A new node becomes current, by the step that unlocks the node above it.
+-- A node that was obsolete becomes current, by the step that unlocks the node above it.
 use Rattle.std.proofs.Common.{◌≡◌, ◌≢◌, ◌⊎◌, ⊎_elim, ℕ, zero, suc, ◌+◌, ◌*◌, ◌/◌, ◌<◌, ◌≤◌, Bool, cond, nat_eq, nat_lt, List, ◌∷◌, length, length-set, set, Option, Some, None, refl, sym, ap, ◌∙◌, subst, inl, inr, arith, eq-eqb, ne_eqb}
 use Rattle.std.proofs.lemmas.Bool.{cases_order, lt-ltb, le-ltb}
 use mathlib.Core.Option.{some}
 use mathlib.Core.Logic.{dite}
 use native.Mathlib.Decide.{ℕ_discrete}
 use lib.ListN.{get_elem?}
-use Rattle.node_table.specs.TableNode.{Child}
-use Rattle.node_table.specs.declared.child.Child.TheVariants.{Payload, Node as Below}
+use Rattle.spec_node.specs.TableNode.{Child}
+use Rattle.spec_node.specs.declared.child.Child.TheVariants.{Payload, Node as Below}
 use Rattle.live_nodes.proofs.Frames.{each_map, put_at, put_here, put_else}
 use Rattle.live_nodes.specs.Nodes.{Content, at, Node, node}
 use Rattle.live_nodes.specs.Seats.{Each}
-use Rattle.live_law.specs.Levels.{Shape, name_of, way, IsBelow, Spot}
-use Rattle.live_law.specs.Views.{View, view_of, Watch, Own, locked, fresh, outgrown, trunk}
+use Rattle.live_law.specs.Levels.{Shape, name_of, bytes_above, IsBelow, Spot}
+use Rattle.live_law.specs.Views.{View, view_of, Watch, Own, locked, detached, root_word}
 use Rattle.live_law.specs.Tree.{Plan, home_of, IsFree, LeadsTo, IsHouse, Skips, IsCurrent, NamesRoot, IsSpot, IsMet, IsBound, NoLater, IsWatched, IsOwn, IsSettled, AreAlive, IsTree, IsMap}
-use Rattle.live_law.proofs.Plans.{way-suc, way-own, none_below, at_home}
+use Rattle.live_law.proofs.Plans.{bytes_above-suc, bytes_above-own, none_below, at_home}
 use Rattle.live_law.proofs.Changes.{with_map, no_later, not_bound, nodes_stay, settled_stays, is_here, is_else, low_stays}
 use Rattle.live_law.proofs.Makes.{current_alike}
 
@@ -34,8 +34,7 @@ module _ (d : Plan) (y : Spot) (g : ℕ) where
   abbrev pub linked : Plan
   linked = record {
     shape = d.shape;
-    home = λ h t. cond (nat_lt g h) (d.home h t) (cond (nat_lt h h₀) (d.home h t) (cond (nat_eq (way y.shape h) t) y.number (d.home h t)));
-    maker = λ j. cond (nat_eq j y.number) None (d.maker j);
+    home = λ h t. cond (nat_lt g h) (d.home h t) (cond (nat_lt h h₀) (d.home h t) (cond (nat_eq (bytes_above y.shape h) t) y.number (d.home h t)));
   }
 
   -- y is at this level
@@ -43,10 +42,10 @@ module _ (d : Plan) (y : Spot) (g : ℕ) where
   IsOn h t = (h ≤ g) × IsBelow y.shape h t
 
   abbrev middle : ℕ → ℕ → ℕ
-  middle h t = cond (nat_lt h h₀) (d.home h t) (cond (nat_eq (way y.shape h) t) y.number (d.home h t))
+  middle h t = cond (nat_lt h h₀) (d.home h t) (cond (nat_eq (bytes_above y.shape h) t) y.number (d.home h t))
 
   abbrev last : ℕ → ℕ → ℕ
-  last h t = cond (nat_eq (way y.shape h) t) y.number (d.home h t)
+  last h t = cond (nat_eq (bytes_above y.shape h) t) y.number (d.home h t)
 
   home_low : (h t : ℕ) → h ≤ g → linked.home h t ≡ middle h t
   home_low h t low = ap (λ (b : Bool). cond b (d.home h t) (middle h t)) (le-ltb g h low)
@@ -55,14 +54,14 @@ module _ (d : Plan) (y : Spot) (g : ℕ) where
   home_tall h t low tall = home_low h t low ∙ ap (λ (b : Bool). cond b (d.home h t) (last h t)) (le-ltb h h₀ tall)
 
   pub home_new : (h t : ℕ) → IsOn h t → linked.home h t ≡ y.number
-  home_new h t on = home_tall h t on.0 on.1.0 ∙ ap (λ (b : Bool). cond b y.number (d.home h t)) (eq-eqb (way y.shape h) t on.1.1)
+  home_new h t on = home_tall h t on.0 on.1.0 ∙ ap (λ (b : Bool). cond b y.number (d.home h t)) (eq-eqb (bytes_above y.shape h) t on.1.1)
 
   pub home_old : (h t : ℕ) → (IsOn h t → ⊥) → linked.home h t ≡ d.home h t
   home_old h t off = ⊎_elim
       (λ low. ⊎_elim
-      (λ tall. dite (ℕ_discrete (way y.shape h) t)
+      (λ tall. dite (ℕ_discrete (bytes_above y.shape h) t)
       (λ e. absurd (off (low, (tall, e))))
-      (λ ne. home_tall h t low tall ∙ ap (λ (b : Bool). cond b y.number (d.home h t)) (ne_eqb (way y.shape h) t ne)))
+      (λ ne. home_tall h t low tall ∙ ap (λ (b : Bool). cond b y.number (d.home h t)) (ne_eqb (bytes_above y.shape h) t ne)))
       (λ short. home_low h t low ∙ ap (λ (b : Bool). cond b (d.home h t) (last h t)) (lt-ltb h h₀ short))
       (le_or h₀ h))
       (λ high. ap (λ (b : Bool). cond b (d.home h t) (middle h t)) (lt-ltb g h high))
@@ -71,7 +70,7 @@ module _ (d : Plan) (y : Spot) (g : ℕ) where
   on_or : (h t : ℕ) → IsOn h t ⊎ (IsOn h t → ⊥)
   on_or h t = ⊎_elim
       (λ low. ⊎_elim
-      (λ tall. dite (ℕ_discrete (way y.shape h) t) (λ e. inl (low, (tall, e))) (λ ne. inr (λ on. ne on.1.1)))
+      (λ tall. dite (ℕ_discrete (bytes_above y.shape h) t) (λ e. inl (low, (tall, e))) (λ ne. inr (λ on. ne on.1.1)))
       (λ short. inr (λ on. let l = on.1.0 in omega (arith, short, l)))
       (le_or h₀ h))
       (λ high. inr (λ on. let l = on.0 in omega (arith, high, l)))
@@ -81,15 +80,6 @@ module _ (d : Plan) (y : Spot) (g : ℕ) where
   home_either : (h t : ℕ) → (IsOn h t × (linked.home h t ≡ y.number)) ⊎ ((IsOn h t → ⊥) × (linked.home h t ≡ d.home h t))
   home_either h t = ⊎_elim (λ on. inl (on, home_new h t on)) (λ off. inr (off, home_old h t off)) (on_or h t)
 
-  maker_here : linked.maker y.number ≡ None
-  maker_here = ap (λ (b : Bool). cond b None (d.maker y.number)) (eq-eqb y.number y.number refl)
-
-  maker_else : (j : ℕ) → j ≢ y.number → linked.maker j ≡ d.maker j
-  maker_else j ne = ap (λ (b : Bool). cond b None (d.maker j)) (ne_eqb j y.number ne)
-
-  maker_none : (j : ℕ) → d.maker j ≡ None → linked.maker j ≡ None
-  maker_none j e = dite (ℕ_discrete j y.number) (λ s. ap linked.maker s ∙ maker_here) (λ ne. maker_else j ne ∙ e)
-
   more_homes : 1 ≤ y.number → (h t : ℕ) → 1 ≤ d.home h t → 1 ≤ linked.home h t
   more_homes some_node h t there = ⊎_elim (λ w. let e = w.1 in omega (arith, e, some_node)) (λ w. let e = w.1 in omega (arith, e, there)) (home_either h t)
 
@@ -98,23 +88,22 @@ module _ (d : Plan) (y : Spot) (g : ℕ) where
   leads_old (Some (Payload w)) h t off l = l
   leads_old (Some (Below w)) h t off l = let e = home_old h t off in (subst (λ (z : ℕ). 1 ≤ z) (sym e) l.0, l.1 ∙ ap (λ (z : ℕ). name_of (d.shape z)) (sym e))
 
--- A NODE THAT IS OFF the map, and that no other seat has: it is new, or the seat has locked it again.
+-- A NODE THAT IS OFF the map, and that the seat has locked.
 pub record IsOff (d : Plan) (ns : List Node) (cs : ℕ → Content) (id : ℕ) (y : Spot) (c : Content) : Type 0 where
   pub spot : IsSpot d ns y
   pub shaped : d.shape y.number ≡ y.shape
   pub nowhere : (h t : ℕ) → d.home h t ≢ y.number
   pub mine : (j : ℕ) → (node ns y.number).holder ≡ Some j → j ≡ id
-  pub maker : (j : ℕ) → d.maker y.number ≡ Some j → j ≡ id
   pub free : (node ns y.number).holder ≡ None → IsFree (node ns y.number)
   pub content : cs y.number ≡ c
 
 -- THE STEP: node k becomes b, and y is current from then on. Where y is, o was, or nothing. Node k is above.
 module _ (id : ℕ) (v : View) (y : Spot) (cy : Content) (k : ℕ) (b : Node) (ns : List Node) (vs : List View) (p : IsMap ns vs) (seat : get_elem? vs id ≡ some v) (low : k < length ns) (there : b.place ≡ (node ns k).place) (long : length b.content ≡ length (node ns k).content)
-    (rises : (node ns k).word < b.word) (held : (node ns k).holder ≡ Some id) (b_free : IsFree b) (made : IsOff p.plan ns p.contents id y cy) (no_maker : 1 ≤ k → p.plan.maker k ≡ None)
+    (rises : (node ns k).word < b.word) (held : (node ns k).holder ≡ Some id) (b_free : IsFree b) (made : IsOff p.plan ns p.contents id y cy)
     (g : ℕ) (level : g ≤ 8) (tall : 1 ≤ y.shape.height) (reach : y.shape.height ≤ g)
-    (o : ℕ) (was : (h : ℕ) → y.shape.height ≤ h → h ≤ g → p.plan.home h (way y.shape h) ≡ o) (shy : 1 ≤ o → g < 8)
+    (o : ℕ) (was : (h : ℕ) → y.shape.height ≤ h → h ≤ g → p.plan.home h (bytes_above y.shape h) ≡ o) (shy : 1 ≤ o → g < 8)
     (occupied : (o ≡ 0) ⊎ (((p.plan.shape o).height ≤ y.shape.height) × (((node ns o).holder ≡ Some id) ⊎ ((p.plan.shape o).height < y.shape.height))))
-    (roof : p.plan.home (suc g) (way y.shape (suc g)) ≡ k) (roof_high : 1 ≤ k → (p.plan.shape k).height ≡ suc g) (roofed : g < 8 → 1 ≤ k) where
+    (roof : p.plan.home (suc g) (bytes_above y.shape (suc g)) ≡ k) (roof_high : 1 ≤ k → (p.plan.shape k).height ≡ suc g) (roofed : g < 8 → 1 ≤ k) where
   abbrev d : Plan
   d = p.plan
 
@@ -128,13 +117,13 @@ module _ (id : ℕ) (v : View) (y : Spot) (cy : Content) (k : ℕ) (b : Node) (n
   hy = y.shape.height
 
   some_y : 1 ≤ y.number
-  some_y = made.spot.below_trunk
+  some_y = made.spot.below_root_word
 
   abbrev pub cs' : ℕ → Content
   cs' = put_at p.contents k b.content
 
   k_current : 1 ≤ k → home_of d (d.shape k) ≡ k
-  k_current some_node = subst (λ (z : ℕ). home_of d (d.shape z) ≡ z) roof (at_home d ns p.contents p.pairs p.tree (suc g) (way y.shape (suc g)) (subst (λ (z : ℕ). 1 ≤ z) (sym roof) some_node))
+  k_current some_node = subst (λ (z : ℕ). home_of d (d.shape z) ≡ z) roof (at_home d ns p.contents p.pairs p.tree (suc g) (bytes_above y.shape (suc g)) (subst (λ (z : ℕ). 1 ≤ z) (sym roof) some_node))
 
   y_not_k : y.number ≢ k
   y_not_k e = made.nowhere (d.shape k).height (d.shape k).top (k_current (omega (arith, e, some_y)) ∙ sym e)
@@ -163,7 +152,7 @@ module _ (id : ℕ) (v : View) (y : Spot) (cy : Content) (k : ℕ) (b : Node) (n
   k_stays some_k = home_old d y g (d.shape k).height (d.shape k).top (λ on. let l = on.0 in let high = roof_high some_k in omega (arith, l, high)) ∙ k_current some_k
 
   y_home : home_of d' y.shape ≡ y.number
-  y_home = home_new d y g hy y.shape.top (reach, ((let e : hy ≤ hy = omega arith in e), way-own y.shape))
+  y_home = home_new d y g hy y.shape.top (reach, ((let e : hy ≤ hy = omega arith in e), bytes_above-own y.shape))
 
   root_stays : (a : Spot) → 1 ≤ a.number → a.shape.height ≡ 8 → home_of d a.shape ≡ a.number → home_of d' a.shape ≡ a.number
   root_stays a some_a high here = ⊎_elim
@@ -178,22 +167,21 @@ module _ (id : ℕ) (v : View) (y : Spot) (cy : Content) (k : ℕ) (b : Node) (n
   none_not_mine e = not_some id (sym e)
 
   spot_links : (a : Spot) → IsSpot d ns a → IsSpot d' ns' a
-  spot_links a s = record { below_trunk = s.below_trunk; low = low_stays d ns k b low there long a.number s.low; key = s.key; form = s.form }
+  spot_links a s = record { below_root_word = s.below_root_word; low = low_stays d ns k b low there long a.number s.low; key = s.key; form = s.form }
 
   pub met_links : (a : Spot) → IsMet d ns a → IsMet d' ns' a
   met_links a m = record {
     spot = spot_links a m.spot;
-    linked = maker_none d y g a.number m.linked;
-    lasts = λ high. let l = m.lasts high in (l.0, root_stays a m.spot.below_trunk high l.1);
+    lasts = λ high. let l = m.lasts high in (l.0, root_stays a m.spot.below_root_word high l.1);
     current = dite (ℕ_discrete a.number k)
-        (λ e f. subst (λ (z : ℕ). home_of d' (d.shape z) ≡ z) (sym e) (k_stays (subst (λ (z : ℕ). 1 ≤ z) e m.spot.below_trunk)))
+        (λ e f. subst (λ (z : ℕ). home_of d' (d.shape z) ≡ z) (sym e) (k_stays (subst (λ (z : ℕ). 1 ≤ z) e m.spot.below_root_word)))
         (λ ne f. let g : IsFree (node ns a.number) = subst IsFree (is_else d ns k b low there long a.number ne) f in
-        home_met a.number m.spot.below_trunk (λ e. none_not_mine (sym g.0 ∙ e)) (m.current g));
+        home_met a.number m.spot.below_root_word (λ e. none_not_mine (sym g.0 ∙ e)) (m.current g));
   }
 
   pub watch_links : (j : ℕ) → j ≢ id → (x : Watch) → IsWatched d ns j x → IsWatched d' ns' j x
   watch_links j other x w = record {
-    below_trunk = w.below_trunk;
+    below_root_word = w.below_root_word;
     low = low_stays d ns k b low there long x.above w.low;
     later = dite (ℕ_discrete x.above k)
         (λ e. subst (NoLater x.word) (sym (is_here d ns k b low there long x.above e)) (no_later x.word (node ns k) b rises (subst (λ (z : ℕ). NoLater x.word (node ns z)) e w.later)))
@@ -207,7 +195,7 @@ module _ (id : ℕ) (v : View) (y : Spot) (cy : Content) (k : ℕ) (b : Node) (n
         let l = w.leads bound' in
         let a : Spot = x.spot in
         let lv : ℕ = l.level in
-        let up_is : way a.shape lv / 256 ≡ way a.shape (suc lv) = sym (way-suc a.shape lv l.tall) in
+        let up_is : bytes_above a.shape lv / 256 ≡ bytes_above a.shape (suc lv) = sym (bytes_above-suc a.shape lv l.tall) in
         let low_a : (d.shape a.number).height ≤ lv = subst (λ (z : Shape). z.height ≤ lv) (sym l.shaped) l.tall in
         record {
           level = lv;
@@ -220,26 +208,26 @@ module _ (id : ℕ) (v : View) (y : Spot) (cy : Content) (k : ℕ) (b : Node) (n
               let is_a : o ≡ a.number = sym (was lv on.1.0 on.0) ∙ (ap (d.home lv) on.1.1 ∙ l.here) in
               absurd (⊎_elim
               (λ in_it.
-              let on' = subst (IsOn d y g (suc lv)) up_is (above_on lv (way a.shape lv) in_it on) in
+              let on' = subst (IsOn d y g (suc lv)) up_is (above_on lv (bytes_above a.shape lv) in_it on) in
               let is_above : o ≡ x.above = sym (was (suc lv) on'.1.0 on'.0) ∙ (ap (d.home (suc lv)) on'.1.1 ∙ l.above) in
               let high = ap (λ (z : ℕ). (d.shape z).height) (sym is_a ∙ is_above) in let tall_x = l.above_high in omega (arith, high, tall_x, low_a))
-              (λ out. ne (sym l.above ∙ (ap (d.home (suc lv)) (sym up_is) ∙ at_top lv (way a.shape lv) out on)))
+              (λ out. ne (sym l.above ∙ (ap (d.home (suc lv)) (sym up_is) ∙ at_top lv (bytes_above a.shape lv) out on)))
               (le_or (suc lv) g)))
               (λ t. t.1 ∙ l.here)
-              (home_either d y g lv (way a.shape lv));
+              (home_either d y g lv (bytes_above a.shape lv));
           above = ⊎_elim
               (λ t.
               let on = t.0 in
               let is_x : o ≡ x.above = sym (was (suc lv) on.1.0 on.0) ∙ (ap (d.home (suc lv)) on.1.1 ∙ l.above) in
               absurd (⊎_elim
-              (λ zero_is. let n = w.below_trunk in omega (arith, zero_is, is_x, n))
+              (λ zero_is. let n = w.below_root_word in omega (arith, zero_is, is_x, n))
               (λ z. ⊎_elim
               (λ mine. not_mine (ap (λ (i : ℕ). (node ns i).holder) (sym is_x) ∙ mine))
               (λ lower. let high = ap (λ (i : ℕ). (d.shape i).height) is_x in let tall_x = l.above_high in let t = on.1.0 in omega (arith, lower, high, tall_x, t))
               z.1)
               occupied))
               (λ t. t.1 ∙ l.above)
-              (home_either d y g (suc lv) (way a.shape (suc lv)));
+              (home_either d y g (suc lv) (bytes_above a.shape (suc lv)));
           above_high = l.above_high;
         });
   }
@@ -249,12 +237,12 @@ module _ (id : ℕ) (v : View) (y : Spot) (cy : Content) (k : ℕ) (b : Node) (n
       bound_else j ne None a bound mine = ne (one_seat j id (sym bound ∙ mine))
 
       above_on : (h t : ℕ) → suc h ≤ g → IsOn d y g h t → IsOn d y g (suc h) (t / 256)
-      above_on h t low on = (low, ((let l = on.1.0 in omega (arith, l)), way-suc y.shape h on.1.0 ∙ ap (λ (z : ℕ). z / 256) on.1.1))
+      above_on h t low on = (low, ((let l = on.1.0 in omega (arith, l)), bytes_above-suc y.shape h on.1.0 ∙ ap (λ (z : ℕ). z / 256) on.1.1))
 
       at_top : (h t : ℕ) → g < suc h → IsOn d y g h t → d.home (suc h) (t / 256) ≡ k
       at_top h t high on =
           let same : h ≡ g = (let l = on.0 in omega (arith, l, high)) in
-          ap (λ (z : ℕ × ℕ). d.home z.0 z.1) (λ i. (suc (same i), (ap (λ (z : ℕ). z / 256) (sym on.1.1) ∙ (sym (way-suc y.shape h on.1.0) ∙ ap (λ (z : ℕ). way y.shape (suc z)) same)) i)) ∙ roof
+          ap (λ (z : ℕ × ℕ). d.home z.0 z.1) (λ i. (suc (same i), (ap (λ (z : ℕ). z / 256) (sym on.1.1) ∙ (sym (bytes_above-suc y.shape h on.1.0) ∙ ap (λ (z : ℕ). bytes_above y.shape (suc z)) same)) i)) ∙ roof
 
   own_links : (j : ℕ) → j ≢ id → (o : Own) → IsOwn d ns p.contents j o → IsOwn d' ns' cs' j o
   own_links j ne (locked a c) h = let other = others j ne a.number h.holder in record {
@@ -262,35 +250,25 @@ module _ (id : ℕ) (v : View) (y : Spot) (cy : Content) (k : ℕ) (b : Node) (n
     shaped = h.shaped;
     holder = ap (λ (z : Node). z.holder) (is_else d ns k b low there long a.number other) ∙ h.holder;
     content = else_cs a.number other ∙ h.content;
-    current = ap (home_of d') (sym h.shaped) ∙ home_met a.number h.met.spot.below_trunk (λ e. ne (one_seat j id (sym h.holder ∙ e))) (ap (home_of d) h.shaped ∙ h.current);
+    current = ap (home_of d') (sym h.shaped) ∙ home_met a.number h.met.spot.below_root_word (λ e. ne (one_seat j id (sym h.holder ∙ e))) (ap (home_of d) h.shaped ∙ h.current);
   }
     where
       others : (j : ℕ) → j ≢ id → (a : ℕ) → (node ns a).holder ≡ Some j → a ≢ k
       others j ne a h e = ne (one_seat j id (sym h ∙ (ap (λ (z : ℕ). (node ns z).holder) e ∙ held)))
-  own_links j ne (fresh a c) h =
-      let not_k : a.number ≢ k = λ e. not_some j (sym h.maker ∙ (ap d.maker e ∙ no_maker (let s = h.spot.below_trunk in omega (arith, s, e)))) in record {
-        spot = spot_links a h.spot;
-        shaped = h.shaped;
-        maker = maker_else d y g a.number (λ e. ne (made.maker j (ap d.maker (sym e) ∙ h.maker))) ∙ h.maker;
-        free = subst IsFree (sym (is_else d ns k b low there long a.number not_k)) h.free;
-        content = else_cs a.number not_k ∙ h.content;
-      }
-  own_links j ne (outgrown a) h =
+  own_links j ne (detached a) h =
       let other : a.number ≢ k = λ e. ne (one_seat j id (sym h.holder ∙ (ap (λ (z : ℕ). (node ns z).holder) e ∙ held))) in
       let not_y : y.number ≢ a.number = λ e. ne (made.mine j (ap (λ (z : ℕ). (node ns z).holder) e ∙ h.holder)) in record {
         spot = spot_links a h.spot;
-        linked = maker_none d y g a.number h.linked;
         holder = ap (λ (z : Node). z.holder) (is_else d ns k b low there long a.number other) ∙ h.holder;
         replaced = λ here. ⊎_elim (λ w. not_y (sym w.1 ∙ here)) (λ w. h.replaced (sym w.1 ∙ here)) (home_either d y g (d.shape a.number).height (d.shape a.number).top);
       }
-  own_links j ne (trunk c) h =
+  own_links j ne (root_word c) h =
       let other : 0 ≢ k = λ e. ne (one_seat j id (sym h.0 ∙ (ap (λ (z : ℕ). (node ns z).holder) e ∙ held))) in
       (ap (λ (z : Node). z.holder) (is_else d ns k b low there long 0 other) ∙ h.0, ap (λ (z : Node). z.content) (is_else d ns k b low there long 0 other) ∙ h.1)
 
   pub y_met : IsMet d' ns' y
   y_met = record {
     spot = spot_links y made.spot;
-    linked = maker_here d y g;
     lasts = λ _. (made.shaped, y_home);
     current = λ _. ap (home_of d') made.shaped ∙ y_home;
   }
@@ -316,10 +294,10 @@ module _ (id : ℕ) (v : View) (y : Spot) (cy : Content) (k : ℕ) (b : Node) (n
   at_roof : (h t : ℕ) → g < suc h → IsOn d y g h t → d.home (suc h) (t / 256) ≡ k
   at_roof h t high on =
       let same : h ≡ g = (let l = on.0 in omega (arith, l, high)) in
-      ap (λ (z : ℕ × ℕ). d.home z.0 z.1) (λ i. (suc (same i), (ap (λ (z : ℕ). z / 256) (sym on.1.1) ∙ (sym (way-suc y.shape h on.1.0) ∙ ap (λ (z : ℕ). way y.shape (suc z)) same)) i)) ∙ roof
+      ap (λ (z : ℕ × ℕ). d.home z.0 z.1) (λ i. (suc (same i), (ap (λ (z : ℕ). z / 256) (sym on.1.1) ∙ (sym (bytes_above-suc y.shape h on.1.0) ∙ ap (λ (z : ℕ). bytes_above y.shape (suc z)) same)) i)) ∙ roof
 
   on_above : (h t : ℕ) → suc h ≤ g → IsOn d y g h t → IsOn d y g (suc h) (t / 256)
-  on_above h t low on = (low, ((let l = on.1.0 in omega (arith, l)), way-suc y.shape h on.1.0 ∙ ap (λ (z : ℕ). z / 256) on.1.1))
+  on_above h t low on = (low, ((let l = on.1.0 in omega (arith, l)), bytes_above-suc y.shape h on.1.0 ∙ ap (λ (z : ℕ). z / 256) on.1.1))
 
   upward_links : (h t : ℕ) → h < 8 → 1 ≤ d'.home h t → 1 ≤ d'.home (suc h) (t / 256)
   upward_links h t l some_node = ⊎_elim
@@ -334,7 +312,7 @@ module _ (id : ℕ) (v : View) (y : Spot) (cy : Content) (k : ℕ) (b : Node) (n
   was_gone : (h t x : ℕ) → x < 256 → IsOn d y g (suc h) t → hy ≤ h → (IsBelow y.shape h (256 * t + x) → ⊥) → d.home h (256 * t + x) ≡ 0
   was_gone h t x lo on tall_h off =
       let above : d.home (suc h) t ≡ o = ap (d.home (suc h)) (sym on.1.1) ∙ was (suc h) on.1.0 on.0 in
-      let here : d.home h (way y.shape h) ≡ o = was h tall_h (let l = on.0 in omega (arith, l)) in
+      let here : d.home h (bytes_above y.shape h) ≡ o = was h tall_h (let l = on.0 in omega (arith, l)) in
       ⊎_elim
       (λ zero_is. none_below d ns p.contents p.pairs p.tree h t x (let l = on.0 in omega (arith, l, level)) lo (above ∙ zero_is))
       (λ z. dite (ℕ_discrete o 0)
@@ -342,9 +320,9 @@ module _ (id : ℕ) (v : View) (y : Spot) (cy : Content) (k : ℕ) (b : Node) (n
       (λ ne.
       let some_o : 1 ≤ o = some_of o ne in
       let lower : (d.shape o).height ≤ h = (let l = z.0 in omega (arith, l, tall_h)) in
-      let ways : way (d.shape o) h ≡ way y.shape h = subst (λ (j : ℕ). way (d.shape j) h ≡ way y.shape h) here (p.tree.housed h (way y.shape h) (subst (λ (j : ℕ). 1 ≤ j) (sym here) some_o)).below.1 in
+      let same_bytes : bytes_above (d.shape o) h ≡ bytes_above y.shape h = subst (λ (j : ℕ). bytes_above (d.shape j) h ≡ bytes_above y.shape h) here (p.tree.housed h (bytes_above y.shape h) (subst (λ (j : ℕ). 1 ≤ j) (sym here) some_o)).below.1 in
       (p.tree.skips h t x lo (subst (λ (j : ℕ). 1 ≤ j) (sym above) some_o) (subst (λ (j : ℕ). (d.shape j).height ≤ h) (sym above) lower)).1
-      (λ bl. off (tall_h, sym ways ∙ (subst (λ (j : ℕ). IsBelow (d.shape j) h (256 * t + x)) above bl).1))))
+      (λ bl. off (tall_h, sym same_bytes ∙ (subst (λ (j : ℕ). IsBelow (d.shape j) h (256 * t + x)) above bl).1))))
       occupied
     where
       some_of : (j : ℕ) → j ≢ 0 → 1 ≤ j
@@ -407,7 +385,6 @@ module _ (id : ℕ) (v : View) (y : Spot) (cy : Content) (k : ℕ) (b : Node) (n
           (λ w. let sh = made.shaped in
           subst (λ (z : ℕ). IsHouse d' ns' h s z) (sym w.1) record {
             low = y_met.spot.low;
-            linked = maker_here d y g;
             level = (let l = w.0.0 in omega (arith, l, level));
             some_height = subst (λ (z : Shape). 1 ≤ z.height) (sym sh) tall;
             below = subst (λ (z : Shape). IsBelow z h s) (sym sh) w.0.1;
@@ -415,7 +392,6 @@ module _ (id : ℕ) (v : View) (y : Spot) (cy : Content) (k : ℕ) (b : Node) (n
           (λ w. let o = t.housed h s (subst (λ (z : ℕ). 1 ≤ z) w.1 some_node) in
           subst (λ (z : ℕ). IsHouse d' ns' h s z) (sym w.1) record {
             low = low_stays d ns k b low there long (d.home h s) o.low;
-            linked = maker_none d y g (d.home h s) o.linked;
             level = o.level;
             some_height = o.some_height;
             below = o.below;
@@ -446,7 +422,7 @@ module _ (id : ℕ) (v : View) (y : Spot) (cy : Content) (k : ℕ) (b : Node) (n
     pub links_map : (os : List Own) → Each (IsOwn d' ns' cs' id) os → IsMap ns' (set vs id (view_of v.seen (y ∷ v.met) os))
     links_map os own = let kn = p.each_view id v seat in
         with_map ns vs id p ns' (view_of v.seen (y ∷ v.met) os) d' cs' p.history p.pairs p.legal
-        (let n = nodes_stay d ns k b low there long p.nodes in record { some_trunk = n.some_trunk; trunk_long = n.trunk_long; placed = n.placed; long = n.long; apart = n.apart })
+        (let n = nodes_stay d ns k b low there long p.nodes in record { some_root_word = n.some_root_word; root_word_long = n.root_word_long; placed = n.placed; long = n.long; apart = n.apart })
         settled_links alive_links links_tree met_links watch_links own_links (λ j ne s h. h) p.unborn record {
           seen = kn.seen;
           met = (y_met, each_map (IsMet d ns) (IsMet d' ns') v.met met_links kn.met);

@@ -5,8 +5,8 @@ use mathlib.Core.Logic.{dite}
 use native.Mathlib.Decide.{ℕ_discrete}
 use lib.ListN.{get_elem?}
 use Rattle.atomic_table.proofs.Lists.{at_set, set_again}
-use Rattle.node_table.specs.TableNode.{TableNode, Child}
-use Rattle.node_table.specs.declared.child.Child.TheVariants.{Payload, Node as Below}
+use Rattle.spec_node.specs.TableNode.{TableNode, Child}
+use Rattle.spec_node.specs.declared.child.Child.TheVariants.{Payload, Node as Below}
 use Rattle.node_base.specs.Form.{form_place}
 use Rattle.spec_map.specs.Map.{Pairs, lookup}
 use Rattle.share_rule.specs.History.{Entry, IsHistory}
@@ -17,11 +17,11 @@ use Rattle.live_nodes.specs.Seats.{Each, IsIn, Agree, Place, Read}
 use Rattle.live_nodes.specs.Rule.{PlaceFits, ReadFits}
 use Rattle.live_nodes.specs.Acts as acts
 use Rattle.live_layout.specs.Encodes.{Encodes, IsBelow as HasBelow, IsWord}
-use Rattle.live_law.specs.Levels.{up, digit, Shape, name_of, Covers, way, Spot, spot, place_at}
+use Rattle.live_law.specs.Levels.{up, digit, Shape, name_of, Covers, bytes_above, Spot, spot, place_at}
 use Rattle.live_law.specs.Views.{View, view_of, Own, locked, Watch, watch, watching, Ask, got}
 use Rattle.live_law.specs.Tree.{Plan, home_of, IsFree, LeadsTo, HasValue, IsUnder, IsCurrent, IsSpot, IsMet, LeadsDown, IsBound, IsWatched, Knows, IsLocked, IsOwn, AreNodes, IsTree, IsMap, GoesTo, HasAnswer, Gets, Finds, Misses, Looks, IsOfKind, IsNow, IsOf, LearnsNode, LearnsMiss, LearnsHead, LearnsBelow}
 use Rattle.live_law.proofs.Histories.{get_legal, others_alike, sees_all, sees_less}
-use Rattle.live_law.proofs.Plans.{digit-low, joined, at_home, missed, none_there, same_name, way-suc}
+use Rattle.live_law.proofs.Plans.{digit-low, joined, at_home, missed, none_there, same_name, bytes_above-suc}
 
 module _ (ns : List Node) (vs : List View) (id : ℕ) (p : IsMap ns vs) where
   -- ONE VIEW CHANGES
@@ -69,8 +69,7 @@ pub met_there : (ns : List Node) (vs : List View) (p : IsMap ns vs) (h t : ℕ) 
 met_there ns vs p h t there =
     let house = p.tree.housed h t there in
     let here = at_home p.plan ns p.contents p.pairs p.tree h t there in record {
-      spot = record { below_trunk = there; low = house.low; key = refl; form = refl };
-      linked = house.linked;
+      spot = record { below_root_word = there; low = house.low; key = refl; form = refl };
       lasts = λ _. (refl, here);
       current = λ _. here;
     }
@@ -89,7 +88,7 @@ module _ (ns : List Node) (vs : List View) (id : ℕ) (v : View) (p : IsMap ns v
 
   pub is_current : IsFree (node ns a.number) → IsCurrent p.plan p.pairs shape_now (node ns a.number).content
   is_current free = let s = met.spot in
-      subst (IsCurrent p.plan p.pairs shape_now) (sym (p.settled a.number s.below_trunk s.low free.0)) (p.tree.current a.number s.below_trunk (met.current free))
+      subst (IsCurrent p.plan p.pairs shape_now) (sym (p.settled a.number s.below_root_word s.low free.0)) (p.tree.current a.number s.below_root_word (met.current free))
 
 pub of_kind : (d : Plan) (m : Pairs ℕ) (height top b : ℕ) (o : Option (Child ℕ)) → IsUnder d m height top b o → IsOfKind height o
 of_kind d m zero top b o u = absurd u
@@ -100,7 +99,7 @@ of_kind d m (suc (suc h)) top b None u = tt
 of_kind d m (suc (suc h)) top b (Some (Payload x)) u = absurd u
 of_kind d m (suc (suc h)) top b (Some (Below s)) u = tt
 
--- What is under a key's digit: the key's value, or the node that is next on its way.
+-- What is under a key's digit: the key's value, or the node that is next on its path.
 module _ (d : Plan) (ns : List Node) (cs : ℕ → Content) (m : Pairs ℕ) (t : IsTree d ns cs m) (k : ℕ) where
   pub at_leaf : (top : ℕ) (o : Option (Child ℕ)) → up 1 k ≡ top → IsUnder d m 1 top (digit 1 k) o → HasValue o (lookup m k)
   at_leaf top o is u = subst (λ (x : ℕ). HasValue o (lookup m x)) (joined 0 k top is) u
@@ -200,8 +199,8 @@ module _ (q : Ask) (id : ℕ) (by : q.caller ≡ id) (v : View) (a : Spot) (mine
             same_view,
             (λ x parts. absurd (parts.leaves (
                 let down = same_watched x parts.known parts.above free (parts.free_by ∙ ap (λ (z : ℕ). Some z) (sym word_is)) in
-                let low_x : x.spot.number < length ns = subst (λ (z : ℕ). z < length ns) down.here (p.tree.housed down.level (way x.spot.shape down.level) (subst (λ (z : ℕ). 1 ≤ z) (sym down.here) down.some_node)).low in
-                let number : x.spot.number ≡ j = same_name p.plan ns p.nodes x.spot record { below_trunk = down.some_node; low = low_x; key = ap (λ (z : Shape). z.key) down.shaped; form = ap (λ (z : Shape). z.form) down.shaped } j leads.0 house.low (sym parts.named ∙ leads.1) in
+                let low_x : x.spot.number < length ns = subst (λ (z : ℕ). z < length ns) down.here (p.tree.housed down.level (bytes_above x.spot.shape down.level) (subst (λ (z : ℕ). 1 ≤ z) (sym down.here) down.some_node)).low in
+                let number : x.spot.number ≡ j = same_name p.plan ns p.nodes x.spot record { below_root_word = down.some_node; low = low_x; key = ap (λ (z : Shape). z.key) down.shaped; form = ap (λ (z : Shape). z.form) down.shaped } j leads.0 house.low (sym parts.named ∙ leads.1) in
                 subst (λ (z : Shape). Covers z q.key) (sym (ap p.plan.shape number) ∙ down.shaped) covers))),
           ),
         ))
@@ -220,7 +219,7 @@ module _ (q : Ask) (id : ℕ) (by : q.caller ≡ id) (v : View) (a : Spot) (mine
       let o : Option (Child ℕ) = lookup c.its.children x in
       let under = c.under x (digit-low s.height q.key) in
       let tell : (ps : List Place) (w : View) → (Covers s q.key → then q v (spot a.number s) o ps w) → ((Covers s q.key → ⊥) → w ≡ v) → LearnsNode then q v a.number word saw ps w =
-      λ ps w on_way beside e known same.
+      λ ps w on_path beside e known same.
       let now = is_now ns vs id v p seat e known in
       let shape_is : p.plan.shape e.number ≡ s = ap p.plan.shape same in
       record {
@@ -236,7 +235,7 @@ module _ (q : Ask) (id : ℕ) (by : q.caller ≡ id) (v : View) (a : Spot) (mine
           prefixed = c.prefixed;
         };
         of_kind = of_kind p.plan p.pairs s.height s.top x o under;
-        on_way = λ covers. subst (λ (z : ℕ). then q v (spot z s) o ps w) (sym same) (on_way covers);
+        on_path = λ covers. subst (λ (z : ℕ). then q v (spot z s) o ps w) (sym same) (on_path covers);
         beside = beside;
       } in
       dite (ℕ_discrete (up s.height q.key) s.top)
@@ -261,8 +260,7 @@ node_heads id v a mine word saw m even reads ns vs p seat low is free agree fits
     let k = p.each_view id v seat in
     let w : View = view_of v.seen (spot a.number s ∷ v.met) v.own in
     let now_met : IsMet p.plan ns (spot a.number s) = record {
-      spot = record { below_trunk = there.spot.below_trunk; low = there.spot.low; key = refl; form = refl };
-      linked = there.linked;
+      spot = record { below_root_word = there.spot.below_root_word; low = there.spot.low; key = refl; form = refl };
       lasts = λ _. (refl, there.current is_free);
       current = there.current;
     } in (
@@ -308,13 +306,13 @@ module _ (d : Plan) (ns : List Node) (cs : ℕ → Content) (m : Pairs ℕ) (t :
       let house = t.housed (suc h) (256 * top + x) named.0 in
       let number : b.number ≡ j = same_name d ns n b its j named.0 house.low named.1 in
       let low_b = subst (λ (z : ℕ). (d.shape z).height ≤ suc h) (sym number) house.below.0 in
-      let way_b : way (d.shape b.number) (suc h) ≡ 256 * top + x = subst (λ (z : ℕ). way (d.shape z) (suc h) ≡ 256 * top + x) (sym number) house.below.1 in
-      let up_b : way (d.shape b.number) (suc (suc h)) ≡ top = (let e = way-suc (d.shape b.number) (suc h) low_b in omega (arith, e, way_b, lo)) in record {
+      let bytes_above_b : bytes_above (d.shape b.number) (suc h) ≡ 256 * top + x = subst (λ (z : ℕ). bytes_above (d.shape z) (suc h) ≡ 256 * top + x) (sym number) house.below.1 in
+      let up_b : bytes_above (d.shape b.number) (suc (suc h)) ≡ top = (let e = bytes_above-suc (d.shape b.number) (suc h) low_b in omega (arith, e, bytes_above_b, lo)) in record {
         level = suc h;
-        some_node = its.below_trunk;
+        some_node = its.below_root_word;
         shaped = refl;
         tall = low_b;
-        here = ap (d.home (suc h)) way_b ∙ sym number;
+        here = ap (d.home (suc h)) bytes_above_b ∙ sym number;
         above = ap (d.home (suc (suc h))) up_b ∙ subst (λ (z : ℕ). d.home z top ≡ k) (sym is) at_k;
         above_high = sym is;
       }
@@ -336,7 +334,7 @@ node_below id v b mine word saw m even reads a known r read_is number l free_by 
     let new : Watch = watch a.number (Some r.word) (spot b.number s) in
     let k = p.each_view id v seat in
     let watched : IsWatched p.plan ns id new = record {
-      below_trunk = ma.spot.below_trunk;
+      below_root_word = ma.spot.below_root_word;
       low = ma.spot.low;
       later = subst (λ (z : ℕ). r.word ≤ (node ns z).word) number fit.0;
       leads = λ bound. let free_a = bound.0 in let same = bound.1 in
@@ -397,11 +395,11 @@ node_below_held id v b mine word saw m even reads a c os own tall x lo w had spe
     let k = p.each_view id v seat in
     let l : IsLocked p.plan ns p.contents id a c = (subst (Each (IsOwn p.plan ns p.contents id)) own k.own).0 in
     let at_a : home_of p.plan (p.plan.shape a.number) ≡ a.number = ap (home_of p.plan) l.shaped ∙ l.current in
-    let cur = p.tree.current a.number l.met.spot.below_trunk at_a in
+    let cur = p.tree.current a.number l.met.spot.below_root_word at_a in
     let new : Watch = watch a.number None (spot b.number s) in
     let below = had cur.its (subst (λ (z : Content). Encodes z cur.its) l.content cur.encodes) (cur.in_form ∙ l.met.spot.form) in
     let watched : IsWatched p.plan ns id new = record {
-      below_trunk = l.met.spot.below_trunk;
+      below_root_word = l.met.spot.below_root_word;
       low = l.met.spot.low;
       later = tt;
       leads = λ _. leads_down p.plan ns p.contents p.pairs p.tree p.nodes a.number at_a x lo (lookup cur.its.children x) w below b mb.spot spells (p.plan.shape a.number).height refl (subst (λ (z : Shape). 2 ≤ z.height) (sym l.shaped) tall) (cur.under x lo);

@@ -1,12 +1,12 @@
--- A node is made.
+-- An obsolete node is made.
 use Rattle.std.proofs.Common.{◌≡◌, ◌≢◌, ⊎_elim, ℕ, zero, suc, ◌+◌, ◌*◌, ◌<◌, ◌≤◌, Bool, cond, nat_eq, List, [], ◌∷◌, ◌++◌, length, Option, Some, None, refl, sym, ap, ◌∙◌, subst, inl, inr, arith, eq-eqb, ne_eqb}
 use mathlib.Core.Logic.{dite}
 use native.Mathlib.Decide.{ℕ_discrete}
 use Rattle.node_base.specs.Form.{limit, form_place}
 use Rattle.node_base.specs.declared.base_node.NodeType.{NodeType}
 use Rattle.node_base.specs.declared.base_node.NodeType.TheVariants.{N4, N16, N48, N256}
-use Rattle.node_table.specs.TableNode.{TableNode, Child}
-use Rattle.node_table.specs.declared.child.Child.TheVariants.{Payload, Node as Below}
+use Rattle.spec_node.specs.TableNode.{TableNode, Child}
+use Rattle.spec_node.specs.declared.child.Child.TheVariants.{Payload, Node as Below}
 use Rattle.spec_map.specs.Map.{Pairs, lookup}
 use Rattle.live_nodes.proofs.Frames.{each_map, node_before, node_last, one_more}
 use Rattle.live_nodes.specs.Nodes.{Content, at, Node, node, node_at}
@@ -14,8 +14,8 @@ use Rattle.live_nodes.specs.Acts as acts
 use Rattle.live_layout.specs.Words as cells
 use Rattle.live_layout.specs.Head.{IsHead}
 use Rattle.live_layout.specs.Encodes.{words_of, long_for, HasChildren, Encodes}
-use Rattle.live_law.specs.Levels.{up, Shape, name_of, way, IsBelow, Spot, spot}
-use Rattle.live_law.specs.Views.{View, with_own, Watch, Own, locked, fresh, outgrown, trunk, Ask}
+use Rattle.live_law.specs.Levels.{Shape, name_of, bytes_above, IsBelow, Spot, spot}
+use Rattle.live_law.specs.Views.{View, with_met, Watch, Own, locked, detached, root_word}
 use Rattle.live_law.specs.Tree.{Plan, home_of, IsFree, LeadsTo, IsUnder, IsCurrent, NamesRoot, IsSpot, IsMet, IsBound, NoLater, IsWatched, IsOwn, AreNodes, AreAlive, IsSettled, IsTree, IsMap, IsMade}
 use Rattle.live_law.proofs.Changes.{with_map}
 
@@ -69,9 +69,9 @@ current_alike d d' m s c f cur = record {
   under = λ x l. under_alike d d' m s.height s.top x (lookup cur.its.children x) (λ h e. f (lookup cur.its.children x) h x l e) (cur.under x l);
 }
 
-module _ (d : Plan) (id : ℕ) (s : Shape) (ns : List Node) (content : Content) where
+module _ (d : Plan) (s : Shape) (word : ℕ) (obsolete : (m : ℕ) → word ≢ 4 * m) (ns : List Node) (content : Content) where
   abbrev b : Node
-  b = node_at s.key 0 content None
+  b = node_at s.key word content None
 
   abbrev longer : List Node
   longer = ns ++ b ∷ []
@@ -83,7 +83,6 @@ module _ (d : Plan) (id : ℕ) (s : Shape) (ns : List Node) (content : Content) 
   d' = record {
     shape = λ j. cond (nat_eq j last) s (d.shape j);
     home = d.home;
-    maker = λ j. cond (nat_eq j last) (Some id) (d.maker j);
   }
 
   abbrev cs' : (ℕ → Content) → ℕ → Content
@@ -107,12 +106,6 @@ module _ (d : Plan) (id : ℕ) (s : Shape) (ns : List Node) (content : Content) 
   shape_old : (j : ℕ) → j ≢ last → d'.shape j ≡ d.shape j
   shape_old j ne = ap (λ (t : Bool). cond t s (d.shape j)) (ne_eqb j last ne)
 
-  maker_new : d'.maker last ≡ Some id
-  maker_new = ap (λ (t : Bool). cond t (Some id) (d.maker last)) (eq-eqb last last refl)
-
-  maker_old : (j : ℕ) → j ≢ last → d'.maker j ≡ d.maker j
-  maker_old j ne = ap (λ (t : Bool). cond t (Some id) (d.maker j)) (ne_eqb j last ne)
-
   content_new : (cs : ℕ → Content) → cs' cs last ≡ content
   content_new cs = ap (λ (t : Bool). cond t content (cs last)) (eq-eqb last last refl)
 
@@ -124,7 +117,7 @@ module _ (d : Plan) (id : ℕ) (s : Shape) (ns : List Node) (content : Content) 
 
   spot_old : (a : Spot) → IsSpot d ns a → IsSpot d' longer a
   spot_old a t = let same = shape_old a.number (lower a.number t.low) in record {
-    below_trunk = t.below_trunk;
+    below_root_word = t.below_root_word;
     low = (let l = t.low in omega (arith, l, more));
     key = ap (λ (z : Shape). z.key) same ∙ t.key;
     form = ap (λ (z : Shape). z.form) same ∙ t.form;
@@ -133,7 +126,6 @@ module _ (d : Plan) (id : ℕ) (s : Shape) (ns : List Node) (content : Content) 
   met_old : (a : Spot) → IsMet d ns a → IsMet d' longer a
   met_old a m = let same = shape_old a.number (lower a.number m.spot.low) in record {
     spot = spot_old a m.spot;
-    linked = maker_old a.number (lower a.number m.spot.low) ∙ m.linked;
     lasts = λ high. let l = m.lasts high in (same ∙ l.0, l.1);
     current = λ f. ap (home_of d) same ∙ m.current (subst IsFree (node_old a.number m.spot.low) f);
   }
@@ -141,12 +133,12 @@ module _ (d : Plan) (id : ℕ) (s : Shape) (ns : List Node) (content : Content) 
   watch_old : (cs : ℕ → Content) (m : Pairs ℕ) → IsTree d ns cs m → (j : ℕ) (x : Watch) → IsWatched d ns j x → IsWatched d' longer j x
   watch_old cs m t j x w =
       let same = node_old x.above w.low in record {
-        below_trunk = w.below_trunk;
+        below_root_word = w.below_root_word;
         low = (let l = w.low in omega (arith, l, more));
         later = subst (NoLater x.word) (sym same) w.later;
         leads = λ bound.
             let l = w.leads (subst (IsBound j x.word) same bound) in
-            let low_x = subst (λ (z : ℕ). z < last) l.here (t.housed l.level (way x.spot.shape l.level) (subst (λ (z : ℕ). 1 ≤ z) (sym l.here) l.some_node)).low in record {
+            let low_x = subst (λ (z : ℕ). z < last) l.here (t.housed l.level (bytes_above x.spot.shape l.level) (subst (λ (z : ℕ). 1 ≤ z) (sym l.here) l.some_node)).low in record {
               level = l.level;
               some_node = l.some_node;
               shaped = shape_old x.spot.number (lower x.spot.number low_x) ∙ l.shaped;
@@ -157,7 +149,7 @@ module _ (d : Plan) (id : ℕ) (s : Shape) (ns : List Node) (content : Content) 
             };
       }
 
-  module _ (some_trunk : 0 < last) (cs : ℕ → Content) (j : ℕ) where
+  module _ (some_root_word : 0 < last) (cs : ℕ → Content) (j : ℕ) where
     own_old : (o : Own) → IsOwn d ns cs j o → IsOwn d' longer (cs' cs) j o
     own_old (locked a c) h = let l = lower a.number h.met.spot.low in record {
       met = met_old a h.met;
@@ -166,20 +158,12 @@ module _ (d : Plan) (id : ℕ) (s : Shape) (ns : List Node) (content : Content) 
       content = content_old cs a.number l ∙ h.content;
       current = h.current;
     }
-    own_old (fresh a c) h = let l = lower a.number h.spot.low in record {
+    own_old (detached a) h = let l = lower a.number h.spot.low in record {
       spot = spot_old a h.spot;
-      shaped = shape_old a.number l ∙ h.shaped;
-      maker = maker_old a.number l ∙ h.maker;
-      free = subst IsFree (sym (node_old a.number h.spot.low)) h.free;
-      content = content_old cs a.number l ∙ h.content;
-    }
-    own_old (outgrown a) h = let l = lower a.number h.spot.low in record {
-      spot = spot_old a h.spot;
-      linked = maker_old a.number l ∙ h.linked;
       holder = ap (λ (z : Node). z.holder) (node_old a.number h.spot.low) ∙ h.holder;
       replaced = λ e. h.replaced (ap (home_of d) (sym (shape_old a.number l)) ∙ e);
     }
-    own_old (trunk c) h = (ap (λ (z : Node). z.holder) (node_old 0 some_trunk) ∙ h.0, ap (λ (z : Node). z.content) (node_old 0 some_trunk) ∙ h.1)
+    own_old (root_word c) h = (ap (λ (z : Node). z.holder) (node_old 0 some_root_word) ∙ h.0, ap (λ (z : Node). z.content) (node_old 0 some_root_word) ∙ h.1)
 
   settled_longer : (cs : ℕ → Content) → IsSettled ns cs → IsSettled longer (cs' cs)
   settled_longer cs s k some_node l free = dite (ℕ_discrete k last)
@@ -187,19 +171,23 @@ module _ (d : Plan) (id : ℕ) (s : Shape) (ns : List Node) (content : Content) 
       (λ ne. let l' : k < last = omega (arith, l, more, ne) in let same = node_old k l' in
       ap (λ (z : Node). z.content) same ∙ (s k some_node l' (ap (λ (z : Node). z.holder) (sym same) ∙ free) ∙ sym (content_old cs k ne)))
 
-  free_new : IsFree b
-  free_new = (refl, (0, refl))
+  not_free : IsFree b → ⊥
+  not_free f = obsolete f.1.0 f.1.1
 
-  alive_longer : AreAlive d ns → AreAlive d' longer
-  alive_longer s k some_node l here free = dite (ℕ_discrete k last)
-      (λ e. subst IsFree (sym (ap (node longer) e ∙ node_new)) free_new)
+  -- no node is where the new one would be
+  home_off : (cs : ℕ → Content) (m : Pairs ℕ) → IsTree d ns cs m → 0 < last → (h x : ℕ) → d.home h x ≢ last
+  home_off cs m t some_root_word h x e = lower (d.home h x) (t.housed h x (subst (λ (z : ℕ). 1 ≤ z) (sym e) some_root_word)).low e
+
+  alive_longer : ((h x : ℕ) → d.home h x ≢ last) → AreAlive d ns → AreAlive d' longer
+  alive_longer off s k some_node l here free = dite (ℕ_discrete k last)
+      (λ e. absurd (off (d'.shape k).height (d'.shape k).top (here ∙ e)))
       (λ ne. let l' : k < last = omega (arith, l, more, ne) in let same = node_old k l' in
       subst IsFree (sym same) (s k some_node l' (ap (home_of d) (sym (shape_old k ne)) ∙ here) (ap (λ (z : Node). z.holder) (sym same) ∙ free)))
 
   nodes_longer : length content ≡ words_of s.form → ((k : ℕ) → k < length ns → (node ns k).place ≢ s.key) → AreNodes d ns → AreNodes d' longer
   nodes_longer long elsewhere n = record {
-    some_trunk = (let l = n.some_trunk in omega (arith, l, more));
-    trunk_long = ap (λ (z : Node). length z.content) (node_old 0 n.some_trunk) ∙ n.trunk_long;
+    some_root_word = (let l = n.some_root_word in omega (arith, l, more));
+    root_word_long = ap (λ (z : Node). length z.content) (node_old 0 n.some_root_word) ∙ n.root_word_long;
     placed = λ k some_node l. dite (ℕ_discrete k last)
         (λ e. ap (λ (z : ℕ). (node longer z).place) e ∙ (ap (λ (z : Node). z.place) node_new ∙ sym (ap (λ (z : ℕ). (d'.shape z).key) e ∙ ap (λ (z : Shape). z.key) shape_new)))
         (λ ne. let l' : k < last = omega (arith, l, more, ne) in ap (λ (z : Node). z.place) (node_old k l') ∙ (n.placed k some_node l' ∙ sym (ap (λ (z : Shape). z.key) (shape_old k ne))));
@@ -226,7 +214,7 @@ module _ (d : Plan) (id : ℕ) (s : Shape) (ns : List Node) (content : Content) 
 
     tree_longer : AreNodes d ns → IsTree d' longer (cs' cs) m
     tree_longer n = record {
-      root = subst (λ (z : Node). NamesRoot d' (at z.content 0)) (sym (node_old 0 n.some_trunk)) (⊎_elim
+      root = subst (λ (z : Node). NamesRoot d' (at z.content 0)) (sym (node_old 0 n.some_root_word)) (⊎_elim
           (λ no. inl no)
           (λ there. inr (there.0, there.1, there.2 ∙ sym (ap name_of (shape_old (d.home 8 0) (home_low 8 0 there.0)))))
           t.root);
@@ -234,7 +222,6 @@ module _ (d : Plan) (id : ℕ) (s : Shape) (ns : List Node) (content : Content) 
       housed = λ h x some_node. let w = t.housed h x some_node in let same = shape_old (d.home h x) (home_low h x some_node) in
           record {
             low = (let l = w.low in omega (arith, l, more));
-            linked = maker_old (d.home h x) (home_low h x some_node) ∙ w.linked;
             level = w.level;
             some_height = subst (λ (z : Shape). 1 ≤ z.height) (sym same) w.some_height;
             below = subst (λ (z : Shape). IsBelow z h x) (sym same) w.below;
@@ -252,51 +239,43 @@ module _ (d : Plan) (id : ℕ) (s : Shape) (ns : List Node) (content : Content) 
       absent = t.absent;
     }
 
-pub node_makes : (q : Ask) (id : ℕ) (v : View) (key : ℕ) (content : Content) (n : TableNode ℕ) → Encodes content n → acts.Makes IsMap id v key content (IsMade q v key content)
-node_makes q id v key content n encodes ns vs p seat elsewhere =
-    let s : Shape = record { key = key; form = n.form; height = q.height; top = up q.height q.key } in
+pub node_makes : (form : NodeType) (id : ℕ) (v : View) (key word m : ℕ) → word ≡ 4 * m + 3 → (content : Content) → length content ≡ words_of form → acts.Makes IsMap id v key word content (IsMade form v key content)
+node_makes form id v key word m odd content long ns vs p seat elsewhere =
+    let s : Shape = record { key = key; form = form; height = 1; top = 0 } in
     let a : Spot = spot (length ns) s in
     let kn = p.each_view id v seat in
-    let w : View = with_own v (fresh a content ∷ v.own) in
+    let w : View = with_met v (a ∷ v.met) in
     let nodes = p.nodes in
     let cs : ℕ → Content = p.contents in
-    let own_ok : (j : ℕ) (o : Own) → IsOwn p.plan ns cs j o → IsOwn (d' p.plan id s ns content) (longer p.plan id s ns content) (cs' p.plan id s ns content cs) j o = λ j o. own_old p.plan id s ns content nodes.some_trunk cs j o in (
+    let obsolete : (n : ℕ) → word ≢ 4 * n = λ n e. omega (arith, e, odd) in
+    let off = home_off p.plan s word obsolete ns content cs p.pairs p.tree nodes.some_root_word in
+    let own_ok : (j : ℕ) (o : Own) → IsOwn p.plan ns cs j o → IsOwn (d' p.plan s word obsolete ns content) (longer p.plan s word obsolete ns content) (cs' p.plan s word obsolete ns content cs) j o = λ j o. own_old p.plan s word obsolete ns content nodes.some_root_word cs j o in (
       w,
-      with_map ns vs id p (longer p.plan id s ns content) w (d' p.plan id s ns content) (cs' p.plan id s ns content cs) p.history p.pairs p.legal
-          (nodes_longer p.plan id s ns content (encodes-long content n encodes) elsewhere nodes)
-          (settled_longer p.plan id s ns content cs p.settled)
-          (alive_longer p.plan id s ns content p.alive)
-          (tree_longer p.plan id s ns content cs p.pairs p.tree nodes)
-          (met_old p.plan id s ns content)
-          (λ j ne. watch_old p.plan id s ns content cs p.pairs p.tree j)
+      with_map ns vs id p (longer p.plan s word obsolete ns content) w (d' p.plan s word obsolete ns content) (cs' p.plan s word obsolete ns content cs) p.history p.pairs p.legal
+          (nodes_longer p.plan s word obsolete ns content long elsewhere nodes)
+          (settled_longer p.plan s word obsolete ns content cs p.settled)
+          (alive_longer p.plan s word obsolete ns content off p.alive)
+          (tree_longer p.plan s word obsolete ns content cs p.pairs p.tree nodes)
+          (met_old p.plan s word obsolete ns content)
+          (λ j ne. watch_old p.plan s word obsolete ns content cs p.pairs p.tree j)
           (λ j ne o. own_ok j o)
           (λ j ne x h. h) p.unborn record {
             seen = kn.seen;
-            met = each_map (IsMet p.plan ns) (IsMet (d' p.plan id s ns content) (longer p.plan id s ns content)) v.met (met_old p.plan id s ns content) kn.met;
-            own = (
+            met = (
               record {
                 spot = record {
-                  below_trunk = nodes.some_trunk;
-                  low = (let l = more p.plan id s ns content in omega (arith, l));
-                  key = ap (λ (z : Shape). z.key) (shape_new p.plan id s ns content);
-                  form = ap (λ (z : Shape). z.form) (shape_new p.plan id s ns content);
+                  below_root_word = nodes.some_root_word;
+                  low = (let l = more p.plan s word obsolete ns content in omega (arith, l));
+                  key = ap (λ (z : Shape). z.key) (shape_new p.plan s word obsolete ns content);
+                  form = ap (λ (z : Shape). z.form) (shape_new p.plan s word obsolete ns content);
                 };
-                shaped = shape_new p.plan id s ns content;
-                maker = maker_new p.plan id s ns content;
-                free = subst IsFree (sym (node_new p.plan id s ns content)) (free_new p.plan id s ns content);
-                content = content_new p.plan id s ns content cs;
+                lasts = λ high. absurd (omega (arith, high));
+                current = λ f. absurd (not_free p.plan s word obsolete ns content (subst IsFree (node_new p.plan s word obsolete ns content) f));
               },
-              each_map (IsOwn p.plan ns cs id) (IsOwn (d' p.plan id s ns content) (longer p.plan id s ns content) (cs' p.plan id s ns content cs) id) v.own (own_ok id) kn.own,
+              each_map (IsMet p.plan ns) (IsMet (d' p.plan s word obsolete ns content) (longer p.plan s word obsolete ns content)) v.met (met_old p.plan s word obsolete ns content) kn.met,
             );
-            watched = each_map (IsWatched p.plan ns id) (IsWatched (d' p.plan id s ns content) (longer p.plan id s ns content) id) v.watched (watch_old p.plan id s ns content cs p.pairs p.tree id) kn.watched;
+            own = each_map (IsOwn p.plan ns cs id) (IsOwn (d' p.plan s word obsolete ns content) (longer p.plan s word obsolete ns content) (cs' p.plan s word obsolete ns content cs) id) v.own (own_ok id) kn.own;
+            watched = each_map (IsWatched p.plan ns id) (IsWatched (d' p.plan s word obsolete ns content) (longer p.plan s word obsolete ns content) id) v.watched (watch_old p.plan s word obsolete ns content cs p.pairs p.tree id) kn.watched;
           },
-      record {
-        spot = a;
-        number = refl;
-        placed = refl;
-        height = refl;
-        covers = refl;
-        form = λ o e. one-form content n o encodes e;
-        is = refl;
-      },
+      record { spot = a; number = refl; placed = refl; in_form = refl; is = refl },
     )

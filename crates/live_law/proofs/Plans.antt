@@ -5,7 +5,7 @@ use native.Mathlib.Decide.{ℕ_discrete}
 use Rattle.spec_map.specs.Map.{Pairs, lookup}
 use Rattle.live_nodes.specs.Nodes.{Content, Node}
 use Rattle.live_layout.proofs.StandLaws.{few_forms}
-use Rattle.live_law.specs.Levels.{up, digit, Shape, name_of, Covers, way, IsBelow, Spot}
+use Rattle.live_law.specs.Levels.{up, digit, Shape, name_of, Covers, bytes_above, IsBelow, Spot}
 use Rattle.live_law.specs.Tree.{Plan, home_of, IsSpot, AreNodes, IsTree}
 
 pub digit-low : (h k : ℕ) → digit h k < 256
@@ -35,19 +35,19 @@ pub up-up : (a b k : ℕ) → up a (up b k) ≡ up (a + b) k
 up-up zero b k = ap (λ (z : ℕ). up z k) (let e : b ≡ 0 + b = omega arith in e)
 up-up (suc a) b k = ap (λ (z : ℕ). z / 256) (up-up a b k) ∙ ap (λ (z : ℕ). up z k) (let e : suc (a + b) ≡ suc a + b = omega arith in e)
 
--- the ways of a node that has a key
-pub way-key : (s : Shape) (h k : ℕ) → Covers s k → s.height ≤ h → way s h ≡ up h k
-way-key s h k covers low = ap (up (h - s.height)) (sym covers) ∙ (up-up (h - s.height) s.height k ∙ ap (λ (z : ℕ). up z k) (let e : h - s.height + s.height ≡ h = omega (arith, low) in e))
+-- the bytes above a node that has a key
+pub bytes_above-key : (s : Shape) (h k : ℕ) → Covers s k → s.height ≤ h → bytes_above s h ≡ up h k
+bytes_above-key s h k covers low = ap (up (h - s.height)) (sym covers) ∙ (up-up (h - s.height) s.height k ∙ ap (λ (z : ℕ). up z k) (let e : h - s.height + s.height ≡ h = omega (arith, low) in e))
 
-pub way-suc : (s : Shape) (h : ℕ) → s.height ≤ h → way s (suc h) ≡ way s h / 256
-way-suc s h low = ap (λ (z : ℕ). up z s.top) (let e : suc h - s.height ≡ suc (h - s.height) = omega (arith, low) in e)
+pub bytes_above-suc : (s : Shape) (h : ℕ) → s.height ≤ h → bytes_above s (suc h) ≡ bytes_above s h / 256
+bytes_above-suc s h low = ap (λ (z : ℕ). up z s.top) (let e : suc h - s.height ≡ suc (h - s.height) = omega (arith, low) in e)
 
-pub way-own : (s : Shape) → way s s.height ≡ s.top
-way-own s = ap (λ (z : ℕ). up z s.top) (let e : s.height - s.height ≡ 0 = omega arith in e)
+pub bytes_above-own : (s : Shape) → bytes_above s s.height ≡ s.top
+bytes_above-own s = ap (λ (z : ℕ). up z s.top) (let e : s.height - s.height ≡ 0 = omega arith in e)
 
--- a way is what is above, and a byte
-pub way-joins : (s : Shape) (h : ℕ) → s.height ≤ h → 256 * way s (suc h) + way s h % 256 ≡ way s h
-way-joins s h low = let e = way-suc s h low in omega (arith, e)
+-- the bytes above a level are those above the next one, and a byte
+pub bytes_above-joins : (s : Shape) (h : ℕ) → s.height ≤ h → 256 * bytes_above s (suc h) + bytes_above s h % 256 ≡ bytes_above s h
+bytes_above-joins s h low = let e = bytes_above-suc s h low in omega (arith, e)
 
 zero_of : (j : ℕ) → (1 ≤ j → ⊥) → j ≡ 0
 zero_of zero never = refl
@@ -62,12 +62,12 @@ module _ (d : Plan) (ns : List Node) (cs : ℕ → Content) (m : Pairs ℕ) (t :
       let same : d.home (suc h) ((256 * x + b) / 256) ≡ 0 = ap (d.home (suc h)) above ∙ none in
       omega (arith, u, same))
 
-  pub none_way : (s : Shape) (n h : ℕ) → n + h < 9 → s.height ≤ h → d.home (n + h) (way s (n + h)) ≡ 0 → d.home h (way s h) ≡ 0
-  none_way s zero h l low none = subst (λ (z : ℕ). d.home z (way s z) ≡ 0) (let e : 0 + h ≡ h = omega arith in e) none
-  none_way s (suc n) h l low none = none_way s n h (omega (arith, l)) low
-      (let one = subst (λ (z : ℕ). d.home z (way s z) ≡ 0) (let e : suc n + h ≡ suc (n + h) = omega arith in e) none in
+  pub none_bytes_above : (s : Shape) (n h : ℕ) → n + h < 9 → s.height ≤ h → d.home (n + h) (bytes_above s (n + h)) ≡ 0 → d.home h (bytes_above s h) ≡ 0
+  none_bytes_above s zero h l low none = subst (λ (z : ℕ). d.home z (bytes_above s z) ≡ 0) (let e : 0 + h ≡ h = omega arith in e) none
+  none_bytes_above s (suc n) h l low none = none_bytes_above s n h (omega (arith, l)) low
+      (let one = subst (λ (z : ℕ). d.home z (bytes_above s z) ≡ 0) (let e : suc n + h ≡ suc (n + h) = omega arith in e) none in
       let low' : s.height ≤ n + h = omega (arith, low) in
-      ap (d.home (n + h)) (sym (way-joins s (n + h) low')) ∙ none_below (n + h) (way s (suc (n + h))) (way s (n + h) % 256) (omega (arith, l)) (omega arith) one)
+      ap (d.home (n + h)) (sym (bytes_above-joins s (n + h) low')) ∙ none_below (n + h) (bytes_above s (suc (n + h))) (bytes_above s (n + h) % 256) (omega (arith, l)) (omega arith) one)
 
   -- and no key is there.
   pub none_there : (h k : ℕ) → suc h < 9 → d.home (suc h) (up (suc h) k) ≡ 0 → lookup m k ≡ None
@@ -75,15 +75,15 @@ module _ (d : Plan) (ns : List Node) (cs : ℕ → Content) (m : Pairs ℕ) (t :
   none_there (suc h) k l none = none_there h k (omega (arith, l)) (ap (d.home (suc h)) (sym (joined (suc h) k (up (suc (suc h)) k) refl)) ∙ none_below (suc h) (up (suc (suc h)) k) (digit (suc (suc h)) k) (omega (arith, l)) (digit-low (suc (suc h)) k) none)
 
   -- A node is at each level from the highest on down to its own.
-  pub descends : (n h j : ℕ) → 1 ≤ j → (d.shape j).height ≤ h → d.home (n + h) (way (d.shape j) (n + h)) ≡ j → d.home h (way (d.shape j) h) ≡ j
-  descends zero h j some_node low here = subst (λ (z : ℕ). d.home z (way (d.shape j) z) ≡ j) (let e : 0 + h ≡ h = omega arith in e) here
+  pub descends : (n h j : ℕ) → 1 ≤ j → (d.shape j).height ≤ h → d.home (n + h) (bytes_above (d.shape j) (n + h)) ≡ j → d.home h (bytes_above (d.shape j) h) ≡ j
+  descends zero h j some_node low here = subst (λ (z : ℕ). d.home z (bytes_above (d.shape j) z) ≡ j) (let e : 0 + h ≡ h = omega arith in e) here
   descends (suc n) h j some_node low here =
       let s : Shape = d.shape j in
-      let one : d.home (suc (n + h)) (way s (suc (n + h))) ≡ j = subst (λ (z : ℕ). d.home z (way s z) ≡ j) (let e : suc n + h ≡ suc (n + h) = omega arith in e) here in
+      let one : d.home (suc (n + h)) (bytes_above s (suc (n + h))) ≡ j = subst (λ (z : ℕ). d.home z (bytes_above s z) ≡ j) (let e : suc n + h ≡ suc (n + h) = omega arith in e) here in
       let low' : s.height ≤ n + h = omega (arith, low) in
-      let joins = way-joins s (n + h) low' in
-      let k = t.skips (n + h) (way s (suc (n + h))) (way s (n + h) % 256) (omega arith) (subst (λ (z : ℕ). 1 ≤ z) (sym one) some_node) (subst (λ (z : ℕ). (d.shape z).height ≤ n + h) (sym one) low') in
-      descends n h j some_node low (ap (d.home (n + h)) (sym joins) ∙ (k.0 (subst (λ (z : ℕ). IsBelow (d.shape z) (n + h) (256 * way s (suc (n + h)) + way s (n + h) % 256)) (sym one) (low', sym joins)) ∙ one))
+      let joins = bytes_above-joins s (n + h) low' in
+      let k = t.skips (n + h) (bytes_above s (suc (n + h))) (bytes_above s (n + h) % 256) (omega arith) (subst (λ (z : ℕ). 1 ≤ z) (sym one) some_node) (subst (λ (z : ℕ). (d.shape z).height ≤ n + h) (sym one) low') in
+      descends n h j some_node low (ap (d.home (n + h)) (sym joins) ∙ (k.0 (subst (λ (z : ℕ). IsBelow (d.shape z) (n + h) (256 * bytes_above s (suc (n + h)) + bytes_above s (n + h) % 256)) (sym one) (low', sym joins)) ∙ one))
 
   -- So it is current.
   pub at_home : (h x : ℕ) → 1 ≤ d.home h x → home_of d (d.shape (d.home h x)) ≡ d.home h x
@@ -92,11 +92,11 @@ module _ (d : Plan) (ns : List Node) (cs : ℕ → Content) (m : Pairs ℕ) (t :
       let s : Shape = d.shape j in
       let b = (t.housed h x there).below in
       let low = b.0 in
-      ap (d.home s.height) (sym (way-own s)) ∙ descends (h - s.height) s.height j there (omega arith) (subst (λ (z : ℕ). d.home z (way s z) ≡ j) (let e : h ≡ h - s.height + s.height = omega (arith, low) in e) (ap (d.home h) b.1))
+      ap (d.home s.height) (sym (bytes_above-own s)) ∙ descends (h - s.height) s.height j there (omega arith) (subst (λ (z : ℕ). d.home z (bytes_above s z) ≡ j) (let e : h ≡ h - s.height + s.height = omega (arith, low) in e) (ap (d.home h) b.1))
 
   -- Where a node is that has no such keys, the key isn't there.
   covers_there : (h k j : ℕ) → j ≡ d.home (suc h) (up (suc h) k) → IsBelow (d.shape j) (suc h) (up (suc h) k) → (d.shape j).height ≡ suc h → Covers (d.shape j) k
-  covers_there h k j here below e = ap (λ (z : ℕ). up z k) e ∙ (sym below.1 ∙ (ap (way (d.shape j)) (sym e) ∙ way-own (d.shape j)))
+  covers_there h k j here below e = ap (λ (z : ℕ). up z k) e ∙ (sym below.1 ∙ (ap (bytes_above (d.shape j)) (sym e) ∙ bytes_above-own (d.shape j)))
 
   pub missed : (h k j : ℕ) → suc h < 9 → 1 ≤ j → d.home (suc h) (up (suc h) k) ≡ j → (Covers (d.shape j) k → ⊥) → lookup m k ≡ None
   missed zero k j l some_node here never =
@@ -115,7 +115,7 @@ module _ (d : Plan) (ns : List Node) (cs : ℕ → Content) (m : Pairs ℕ) (t :
       let down : (d.shape j).height ≤ suc h = omega (arith, low, ne) in
       let joins = joined (suc h) k (up (suc (suc h)) k) refl in
       let s = t.skips (suc h) (up (suc (suc h)) k) (digit (suc (suc h)) k) (digit-low (suc (suc h)) k) (subst (λ (z : ℕ). 1 ≤ z) (sym here) some_node) (subst (λ (z : ℕ). (d.shape z).height ≤ suc h) (sym here) down) in
-      dite (ℕ_discrete (way (d.shape j) (suc h)) (up (suc h) k))
+      dite (ℕ_discrete (bytes_above (d.shape j) (suc h)) (up (suc h) k))
       (λ e. missed h k j (omega (arith, l)) some_node
       (ap (d.home (suc h)) (sym joins) ∙ (s.0 (subst (λ (z : ℕ). IsBelow (d.shape z) (suc h) (256 * up (suc (suc h)) k + digit (suc (suc h)) k)) (sym here) (down, e ∙ sym joins)) ∙ here)) never)
       (λ no. none_there h k (omega (arith, l)) (ap (d.home (suc h)) (sym joins) ∙ s.1 (λ b. no ((subst (λ (z : ℕ). IsBelow (d.shape z) (suc h) (256 * up (suc (suc h)) k + digit (suc (suc h)) k)) here b).1 ∙ joins)))))
@@ -125,4 +125,4 @@ pub same_key : (s t : Shape) → name_of s ≡ name_of t → s.key ≡ t.key
 same_key s t e = let f = few_forms s.form in let g = few_forms t.form in omega (arith, e, f, g)
 
 pub same_name : (d : Plan) (ns : List Node) → AreNodes d ns → (b : Spot) → IsSpot d ns b → (j : ℕ) → 1 ≤ j → j < length ns → name_of b.shape ≡ name_of (d.shape j) → b.number ≡ j
-same_name d ns n b s j some_node low named = n.apart b.number j s.below_trunk some_node s.low low (s.key ∙ same_key b.shape (d.shape j) named)
+same_name d ns n b s j some_node low named = n.apart b.number j s.below_root_word some_node s.low low (s.key ∙ same_key b.shape (d.shape j) named)

@@ -3,14 +3,14 @@
 use Rattle.std.proofs.Common.{◌≡◌, ◌≢◌, ⊎_elim, ℕ, suc, ◌+◌, ◌*◌, ◌≤◌, Bool, cond, nat_eq, List, Option, Some, None, refl, sym, ap, ◌∙◌, subst, inl, inr, eq-eqb, ne_eqb}
 use mathlib.Core.Logic.{dite}
 use native.Mathlib.Decide.{ℕ_discrete}
-use Rattle.node_table.specs.TableNode.{Child}
-use Rattle.node_table.specs.declared.child.Child.TheVariants.{Payload, Node as Below}
+use Rattle.spec_node.specs.TableNode.{Child}
+use Rattle.spec_node.specs.declared.child.Child.TheVariants.{Payload, Node as Below}
 use Rattle.live_nodes.proofs.Frames.{each_map, put_at, put_here, put_else}
 use Rattle.live_nodes.specs.Nodes.{Content, Node, node}
 use Rattle.live_layout.specs.Encodes.{words_of}
-use Rattle.live_law.specs.Levels.{Shape, name_of, way, IsBelow, Spot, spot}
-use Rattle.live_law.specs.Views.{View, Watch, Own, locked, fresh, outgrown, trunk}
-use Rattle.live_law.specs.Tree.{Plan, home_of, LeadsTo, IsCurrent, IsSpot, IsMet, IsWatched, IsOutgrown, IsOwn, AreNodes, AreAlive, IsSettled, IsTree, IsMap}
+use Rattle.live_law.specs.Levels.{Shape, name_of, bytes_above, IsBelow, Spot, spot}
+use Rattle.live_law.specs.Views.{View, Watch, Own, locked, detached, root_word}
+use Rattle.live_law.specs.Tree.{Plan, home_of, LeadsTo, IsCurrent, IsSpot, IsMet, IsWatched, IsDetached, IsOwn, AreNodes, AreAlive, IsSettled, IsTree, IsMap}
 use Rattle.live_law.proofs.Plans.{at_home}
 use Rattle.live_law.proofs.Makes.{current_alike}
 use Rattle.live_law.proofs.Links.{IsOff}
@@ -21,7 +21,7 @@ not_some x e = cc
 one_seat : (i j : ℕ) → Some i ≡ Some j → i ≡ j
 one_seat i j e = cc
 
-module _ (id : ℕ) (ns : List Node) (vs : List View) (p : IsMap ns vs) (x : Spot) (out : IsOutgrown p.plan ns id x) (s : Shape) (key_is : s.key ≡ x.shape.key) (form_is : s.form ≡ x.shape.form) (content : Content) where
+module _ (id : ℕ) (ns : List Node) (vs : List View) (p : IsMap ns vs) (x : Spot) (out : IsDetached p.plan ns id x) (s : Shape) (key_is : s.key ≡ x.shape.key) (form_is : s.form ≡ x.shape.form) (content : Content) where
   abbrev d : Plan
   d = p.plan
 
@@ -29,7 +29,7 @@ module _ (id : ℕ) (ns : List Node) (vs : List View) (p : IsMap ns vs) (x : Spo
   k = x.number
 
   abbrev d' : Plan
-  d' = record { shape = λ j. cond (nat_eq j k) s (d.shape j); home = d.home; maker = d.maker }
+  d' = record { shape = λ j. cond (nat_eq j k) s (d.shape j); home = d.home }
 
   abbrev cs' : ℕ → Content
   cs' = put_at p.contents k content
@@ -42,7 +42,7 @@ module _ (id : ℕ) (ns : List Node) (vs : List View) (p : IsMap ns vs) (x : Spo
 
   -- no node is where it was
   nowhere : (h t : ℕ) → d.home h t ≢ k
-  nowhere h t e = out.replaced (subst (λ (z : ℕ). home_of d (d.shape z) ≡ z) e (at_home d ns p.contents p.pairs p.tree h t (subst (λ (z : ℕ). 1 ≤ z) (sym e) out.spot.below_trunk)))
+  nowhere h t e = out.replaced (subst (λ (z : ℕ). home_of d (d.shape z) ≡ z) e (at_home d ns p.contents p.pairs p.tree h t (subst (λ (z : ℕ). 1 ≤ z) (sym e) out.spot.below_root_word)))
 
   home_old : (h t : ℕ) → d'.shape (d.home h t) ≡ d.shape (d.home h t)
   home_old h t = shape_old (d.home h t) (nowhere h t)
@@ -59,7 +59,7 @@ module _ (id : ℕ) (ns : List Node) (vs : List View) (p : IsMap ns vs) (x : Spo
       (λ ne. ap (λ (z : Shape). z.form) (shape_old j ne))
 
   spot_stays : (a : Spot) → IsSpot d ns a → IsSpot d' ns a
-  spot_stays a t = record { below_trunk = t.below_trunk; low = t.low; key = key_stays a.number ∙ t.key; form = form_stays a.number ∙ t.form }
+  spot_stays a t = record { below_root_word = t.below_root_word; low = t.low; key = key_stays a.number ∙ t.key; form = form_stays a.number ∙ t.form }
 
   held_k : (j : ℕ) → j ≡ k → (node ns j).holder ≡ Some id
   held_k j e = ap (λ (z : ℕ). (node ns z).holder) e ∙ out.holder
@@ -67,24 +67,23 @@ module _ (id : ℕ) (ns : List Node) (vs : List View) (p : IsMap ns vs) (x : Spo
   met_stays : (a : Spot) → IsMet d ns a → IsMet d' ns a
   met_stays a m = record {
     spot = spot_stays a m.spot;
-    linked = m.linked;
     lasts = λ high. let l = m.lasts high in (shape_old a.number (λ e. nowhere a.shape.height a.shape.top (l.1 ∙ e)) ∙ l.0, l.1);
     current = λ f. let ne : a.number ≢ k = λ e. not_some id (sym (held_k a.number e) ∙ f.0) in ap (home_of d) (shape_old a.number ne) ∙ m.current f;
   }
 
   watch_stays : (j : ℕ) (a : Watch) → IsWatched d ns j a → IsWatched d' ns j a
   watch_stays j a w = record {
-    below_trunk = w.below_trunk;
+    below_root_word = w.below_root_word;
     low = w.low;
     later = w.later;
     leads = λ bound. let l = w.leads bound in record {
       level = l.level;
       some_node = l.some_node;
-      shaped = shape_old a.spot.number (λ e. nowhere l.level (way a.spot.shape l.level) (l.here ∙ e)) ∙ l.shaped;
+      shaped = shape_old a.spot.number (λ e. nowhere l.level (bytes_above a.spot.shape l.level) (l.here ∙ e)) ∙ l.shaped;
       tall = l.tall;
       here = l.here;
       above = l.above;
-      above_high = ap (λ (z : Shape). z.height) (shape_old a.above (λ e. nowhere (suc l.level) (way a.spot.shape (suc l.level)) (l.above ∙ e))) ∙ l.above_high;
+      above_high = ap (λ (z : Shape). z.height) (shape_old a.above (λ e. nowhere (suc l.level) (bytes_above a.spot.shape (suc l.level)) (l.above ∙ e))) ∙ l.above_high;
     };
   }
 
@@ -96,27 +95,19 @@ module _ (id : ℕ) (ns : List Node) (vs : List View) (p : IsMap ns vs) (x : Spo
     content = put_else p.contents k content a.number ne ∙ h.content;
     current = h.current;
   }
-  own_stays j (fresh a c) h = let ne : a.number ≢ k = λ e. not_some j (sym h.maker ∙ (ap d.maker e ∙ out.linked)) in record {
+  own_stays j (detached a) h = record {
     spot = spot_stays a h.spot;
-    shaped = shape_old a.number ne ∙ h.shaped;
-    maker = h.maker;
-    free = h.free;
-    content = put_else p.contents k content a.number ne ∙ h.content;
-  }
-  own_stays j (outgrown a) h = record {
-    spot = spot_stays a h.spot;
-    linked = h.linked;
     holder = h.holder;
     replaced = dite (ℕ_discrete a.number k)
         (λ e here. nowhere (d'.shape a.number).height (d'.shape a.number).top (here ∙ e))
         (λ ne here. h.replaced (ap (home_of d) (sym (shape_old a.number ne)) ∙ here));
   }
-  own_stays j (trunk c) h = h
+  own_stays j (root_word c) h = h
 
   nodes_stay : AreNodes d' ns
   nodes_stay = let n = p.nodes in record {
-    some_trunk = n.some_trunk;
-    trunk_long = n.trunk_long;
+    some_root_word = n.some_root_word;
+    root_word_long = n.root_word_long;
     placed = λ j some_node l. n.placed j some_node l ∙ sym (key_stays j);
     long = λ j some_node l. n.long j some_node l ∙ ap words_of (sym (form_stays j));
     apart = λ i j some_i some_j l m same. n.apart i j some_i some_j l m (sym (key_stays i) ∙ (same ∙ key_stays j));
@@ -142,7 +133,6 @@ module _ (id : ℕ) (ns : List Node) (vs : List View) (p : IsMap ns vs) (x : Spo
     rooted = λ some_node. subst (λ (z : Shape). z.height ≡ 8) (sym (home_old 8 0)) (t.rooted some_node);
     housed = λ h y some_node. let w = t.housed h y some_node in let same = home_old h y in record {
       low = w.low;
-      linked = w.linked;
       level = w.level;
       some_height = subst (λ (z : Shape). 1 ≤ z.height) (sym same) w.some_height;
       below = subst (λ (z : Shape). IsBelow z h y) (sym same) w.below;
@@ -182,11 +172,10 @@ module _ (id : ℕ) (ns : List Node) (vs : List View) (p : IsMap ns vs) (x : Spo
   pub replan_off : IsOff replan.plan ns replan.contents id (spot k s) content
   unfolding replan
   replan_off = record {
-    spot = record { below_trunk = out.spot.below_trunk; low = out.spot.low; key = ap (λ (z : Shape). z.key) shape_new; form = ap (λ (z : Shape). z.form) shape_new };
+    spot = record { below_root_word = out.spot.below_root_word; low = out.spot.low; key = ap (λ (z : Shape). z.key) shape_new; form = ap (λ (z : Shape). z.form) shape_new };
     shaped = shape_new;
     nowhere = nowhere;
     mine = λ j e. one_seat j id (sym e ∙ out.holder);
-    maker = λ j e. absurd (not_some j (sym e ∙ out.linked));
     free = λ none. absurd (not_some id (sym out.holder ∙ none));
     content = put_here p.contents k content;
   }

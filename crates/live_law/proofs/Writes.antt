@@ -4,8 +4,8 @@ use mathlib.Core.Option.{some}
 use mathlib.Core.Logic.{dite}
 use native.Mathlib.Decide.{ℕ_discrete}
 use lib.ListN.{get_elem?}
-use Rattle.node_table.specs.TableNode.{TableNode, Child}
-use Rattle.node_table.specs.declared.child.Child.TheVariants.{Payload}
+use Rattle.spec_node.specs.TableNode.{TableNode, Child}
+use Rattle.spec_node.specs.declared.child.Child.TheVariants.{Payload}
 use Rattle.spec_map.specs.Map.{Pairs, lookup, put}
 use Rattle.spec_map.proofs.MapLaws.{lookup-put_same, lookup-put_other}
 use Rattle.share_rule.specs.History.{Entry, IsHistory}
@@ -16,8 +16,8 @@ use Rattle.live_nodes.specs.Seats.{Each}
 use Rattle.live_nodes.specs.Acts as acts
 use Rattle.live_layout.specs.Encodes.{words_of, Encodes, with_child}
 use Rattle.live_law.specs.Levels.{up, digit, Shape, Covers, Spot}
-use Rattle.live_law.specs.Views.{View, view_of, Own, locked, outgrown, trunk, rest_of, content_of, Ask, inserted}
-use Rattle.live_law.specs.Tree.{Plan, home_of, IsFree, HasValue, IsUnder, IsCurrent, IsMet, IsOwn, IsLocked, IsOutgrown, IsApart, IsTree, IsMap, StaysSame, Inserts}
+use Rattle.live_law.specs.Views.{View, view_of, Own, locked, detached, root_word, rest_of, content_of, Ask, inserted}
+use Rattle.live_law.specs.Tree.{Plan, home_of, IsFree, HasValue, IsUnder, IsCurrent, IsMet, IsOwn, IsLocked, IsDetached, IsApart, IsTree, IsMap, StaysSame, Inserts}
 use Rattle.live_law.proofs.Histories.{put_legal, others_alike, sees_all, sees_less}
 use Rattle.live_law.proofs.Plans.{joined}
 use Rattle.live_law.proofs.Looks.{at_leaf}
@@ -32,21 +32,21 @@ one_seat i j e = cc
 
 -- what a node that is current has, by its shape
 pub current_at : (d : Plan) (ns : List Node) (cs : ℕ → Content) (m : Pairs ℕ) (id : ℕ) (a : Spot) (c : Content) → IsTree d ns cs m → IsLocked d ns cs id a c → IsCurrent d m a.shape c
-current_at d ns cs m id a c t l = subst (λ (z : Shape × Content). IsCurrent d m z.0 z.1) (λ i. (l.shaped i, l.content i)) (t.current a.number l.met.spot.below_trunk (ap (home_of d) l.shaped ∙ l.current))
+current_at d ns cs m id a c t l = subst (λ (z : Shape × Content). IsCurrent d m z.0 z.1) (λ i. (l.shaped i, l.content i)) (t.current a.number l.met.spot.below_root_word (ap (home_of d) l.shaped ∙ l.current))
 
 -- A HELD NODE k is free again, or obsolete, and its seat has the others to itself that it had.
-module _ (id : ℕ) (v : View) (k word : ℕ) (d : Content) (ns : List Node) (vs : List View) (p : IsMap ns vs) (seat : get_elem? vs id ≡ some v) (low : k < length ns) (held : (node ns k).holder ≡ Some id) (rises : (node ns k).word < word) (long : length d ≡ length (node ns k).content) (no_maker : 1 ≤ k → p.plan.maker k ≡ None) where
+module _ (id : ℕ) (v : View) (k word : ℕ) (d : Content) (ns : List Node) (vs : List View) (p : IsMap ns vs) (seat : get_elem? vs id ≡ some v) (low : k < length ns) (held : (node ns k).holder ≡ Some id) (rises : (node ns k).word < word) (long : length d ≡ length (node ns k).content) where
   abbrev pub freed : Node
   freed = node_at (node ns k).place word d None
 
   no_holder : (j : ℕ) → j ≢ id → (node ns k).holder ≢ Some j
   no_holder j ne e = ne (one_seat j id (sym e ∙ held))
 
-  module _ (cs' : ℕ → Content) (else : (j : ℕ) → j ≢ k → cs' j ≡ p.contents j) (has : 1 ≤ k → d ≡ cs' k) (if_free : 1 ≤ k → p.plan.maker k ≡ None → IsFree freed → home_of p.plan (p.plan.shape k) ≡ k) (if_home : 1 ≤ k → home_of p.plan (p.plan.shape k) ≡ k → IsFree freed)
+  module _ (cs' : ℕ → Content) (else : (j : ℕ) → j ≢ k → cs' j ≡ p.contents j) (has : 1 ≤ k → d ≡ cs' k) (if_free : 1 ≤ k → IsFree freed → home_of p.plan (p.plan.shape k) ≡ k) (if_home : 1 ≤ k → home_of p.plan (p.plan.shape k) ≡ k → IsFree freed)
       (os : List Own) (apart : Each (IsApart k) os) (own : Each (IsOwn p.plan ns p.contents id) os) where
     others_own : (j : ℕ) → j ≢ id → (o : Own) → IsOwn p.plan ns p.contents j o → IsOwn p.plan (set ns k freed) cs' j o
     others_own j ne o has_it = own_stays p.plan ns k freed low refl long if_free p.contents cs' else j o
-        (apart_from p.plan ns k freed low refl long p.contents j (no_holder j ne) (λ some_node e. not_some j (sym e ∙ no_maker some_node)) o has_it) has_it
+        (apart_from p.plan ns k freed low refl long p.contents j (no_holder j ne) o has_it) has_it
 
     pub goes_same : IsTree p.plan (set ns k freed) cs' p.pairs → IsMap (set ns k freed) (set vs id (view_of v.seen v.met os))
     goes_same tree =
@@ -107,41 +107,38 @@ node_stays id v a c os is apart word m even d same ns vs p seat low held rises =
     let s = l.met.spot in
     let cur = current_at p.plan ns p.contents p.pairs id a c p.tree l in
     let long : length d ≡ words_of a.shape.form = ap (λ (z : Content). length z) same ∙ (encodes-long c cur.its cur.encodes ∙ ap words_of cur.in_form) in
-    let as_long : length d ≡ length (node ns k).content = long ∙ sym (p.nodes.long k s.below_trunk s.low ∙ ap words_of s.form) in
-    let no_maker : 1 ≤ k → p.plan.maker k ≡ None = λ _. l.met.linked in
+    let as_long : length d ≡ length (node ns k).content = long ∙ sym (p.nodes.long k s.below_root_word s.low ∙ ap words_of s.form) in
     let here = home_locked p.plan ns p.contents id a c l in (
       view_of v.seen v.met os,
-      goes_same id v k word d ns vs p seat low held rises as_long no_maker p.contents (λ j ne. refl) (λ _. same ∙ sym l.content) (λ _ _ _. here) (λ _ _. (refl, (m, even))) os apart own.1
-          (tree_same p.plan ns k (freed id v k word d ns vs p seat low held rises as_long no_maker) low refl as_long p.contents p.pairs p.tree (λ e. absurd (let n = s.below_trunk in omega (arith, e, n)))),
+      goes_same id v k word d ns vs p seat low held rises as_long p.contents (λ j ne. refl) (λ _. same ∙ sym l.content) (λ _ _. here) (λ _ _. (refl, (m, even))) os apart own.1
+          (tree_same p.plan ns k (freed id v k word d ns vs p seat low held rises as_long) low refl as_long p.contents p.pairs p.tree (λ e. absurd (let n = s.below_root_word in omega (arith, e, n)))),
       ap (λ (os : List Own). view_of v.seen v.met (rest_of os)) (sym is),
     )
 
-pub trunk_stays : (id : ℕ) (v : View) (c : Content) → v.own ≡ trunk c ∷ [] → (word : ℕ) (d : Content) → d ≡ c → acts.Frees IsMap id v 0 word d (StaysSame v 0 d)
-trunk_stays id v c is word d same ns vs p seat low held rises =
-    let l : IsOwn p.plan ns p.contents id (trunk c) = (its_own id v (trunk c ∷ []) is ns vs p seat).0 in
+pub root_word_stays : (id : ℕ) (v : View) (c : Content) → v.own ≡ root_word c ∷ [] → (word : ℕ) (d : Content) → d ≡ c → acts.Frees IsMap id v 0 word d (StaysSame v 0 d)
+root_word_stays id v c is word d same ns vs p seat low held rises =
+    let l : IsOwn p.plan ns p.contents id (root_word c) = (its_own id v (root_word c ∷ []) is ns vs p seat).0 in
     let as_was : d ≡ (node ns 0).content = same ∙ sym l.1 in
-    let long = ap (λ (z : Content). length z) as_was in
-    let no_maker : 1 ≤ 0 → p.plan.maker 0 ≡ None = λ some_node. absurd (omega (arith, some_node)) in (
+    let long = ap (λ (z : Content). length z) as_was in (
       view_of v.seen v.met [],
-      goes_same id v 0 word d ns vs p seat low held rises long no_maker p.contents (λ j ne. refl) (λ some_node. absurd (omega (arith, some_node))) (λ some_node _ _. absurd (omega (arith, some_node))) (λ some_node _. absurd (omega (arith, some_node))) [] tt tt
-          (tree_same p.plan ns 0 (freed id v 0 word d ns vs p seat low held rises long no_maker) low refl long p.contents p.pairs p.tree (λ _. as_was)),
+      goes_same id v 0 word d ns vs p seat low held rises long p.contents (λ j ne. refl) (λ some_node. absurd (omega (arith, some_node))) (λ some_node _. absurd (omega (arith, some_node))) (λ some_node _. absurd (omega (arith, some_node))) [] tt tt
+          (tree_same p.plan ns 0 (freed id v 0 word d ns vs p seat low held rises long) low refl long p.contents p.pairs p.tree (λ _. as_was)),
       ap (λ (os : List Own). view_of v.seen v.met (rest_of os)) (sym is),
     )
 
 -- it is obsolete, and was replaced
-pub node_retires : (id : ℕ) (v : View) (a : Spot) (os : List Own) → v.own ≡ outgrown a ∷ os → Each (IsApart a.number) os → (word m : ℕ) → word ≡ 4 * m + 3 → (d : Content) → length d ≡ words_of a.shape.form → acts.Frees IsMap id v a.number word d (StaysSame v a.number d)
+pub node_retires : (id : ℕ) (v : View) (a : Spot) (os : List Own) → v.own ≡ detached a ∷ os → Each (IsApart a.number) os → (word m : ℕ) → word ≡ 4 * m + 3 → (d : Content) → length d ≡ words_of a.shape.form → acts.Frees IsMap id v a.number word d (StaysSame v a.number d)
 node_retires id v a os is apart word m odd d long ns vs p seat low held rises =
     let k : ℕ = a.number in
-    let own = its_own id v (outgrown a ∷ os) is ns vs p seat in
-    let l : IsOutgrown p.plan ns id a = own.0 in
+    let own = its_own id v (detached a ∷ os) is ns vs p seat in
+    let l : IsDetached p.plan ns id a = own.0 in
     let s = l.spot in
-    let as_long : length d ≡ length (node ns k).content = long ∙ sym (p.nodes.long k s.below_trunk s.low ∙ ap words_of s.form) in
-    let no_maker : 1 ≤ k → p.plan.maker k ≡ None = λ _. l.linked in
+    let as_long : length d ≡ length (node ns k).content = long ∙ sym (p.nodes.long k s.below_root_word s.low ∙ ap words_of s.form) in
     let cs' : ℕ → Content = put_at p.contents k d in (
       view_of v.seen v.met os,
-      goes_same id v k word d ns vs p seat low held rises as_long no_maker cs' (λ j ne. put_else p.contents k d j ne) (λ _. sym (put_here p.contents k d)) (λ _ _ f. absurd (let w = f.1.1 in omega (arith, w, odd))) (λ _ here. absurd (l.replaced here)) os apart own.1
-          (tree_stays p.plan ns k (freed id v k word d ns vs p seat low held rises as_long no_maker) low refl as_long p.contents cs' p.pairs p.pairs p.tree
-          (λ e. absurd (let n = s.below_trunk in omega (arith, e, n)))
+      goes_same id v k word d ns vs p seat low held rises as_long cs' (λ j ne. put_else p.contents k d j ne) (λ _. sym (put_here p.contents k d)) (λ _ f. absurd (let w = f.1.1 in omega (arith, w, odd))) (λ _ here. absurd (l.replaced here)) os apart own.1
+          (tree_stays p.plan ns k (freed id v k word d ns vs p seat low held rises as_long) low refl as_long p.contents cs' p.pairs p.pairs p.tree
+          (λ e. absurd (let n = s.below_root_word in omega (arith, e, n)))
           (λ some_node here. absurd (l.replaced here))
           (λ j some_node ne here c. subst (IsCurrent p.plan p.pairs (p.plan.shape j)) (sym (put_else p.contents k d j ne)) c)
           p.tree.absent),
@@ -179,8 +176,7 @@ leaf_inserts q id by v a c is leaf covers word m even d long changes ns vs p sea
     let k : ℕ = a.number in
     let l : IsLocked p.plan ns p.contents id a c = (its_own id v (locked a c ∷ []) is ns vs p seat).0 in
     let s = l.met.spot in
-    let as_long : length d ≡ length (node ns k).content = long ∙ sym (p.nodes.long k s.below_trunk s.low ∙ ap words_of s.form) in
-    let no_maker : 1 ≤ k → p.plan.maker k ≡ None = λ _. l.met.linked in
+    let as_long : length d ≡ length (node ns k).content = long ∙ sym (p.nodes.long k s.below_root_word s.low ∙ ap words_of s.form) in
     let at_k = home_locked p.plan ns p.contents id a c l in
     let old = current_at p.plan ns p.contents p.pairs id a c p.tree l in
     let top_is : up 1 q.key ≡ a.shape.top = subst (λ (h : ℕ). up h q.key ≡ a.shape.top) leaf covers in
@@ -196,8 +192,8 @@ leaf_inserts q id by v a c is leaf covers word m even d long changes ns vs p sea
     } in
     let home_1 : p.plan.home 1 (q.key / 256) ≡ k = ap (p.plan.home 1) top_is ∙ (ap (λ (h : ℕ). p.plan.home h a.shape.top) (sym leaf) ∙ l.current) in
     let cs' : ℕ → Content = put_at p.contents k d in
-    let tree = tree_stays p.plan ns k (freed id v k word d ns vs p seat low held rises as_long no_maker) low refl as_long p.contents cs' p.pairs pairs p.tree
-    (λ e. absurd (let n = s.below_trunk in omega (arith, e, n)))
+    let tree = tree_stays p.plan ns k (freed id v k word d ns vs p seat low held rises as_long) low refl as_long p.contents cs' p.pairs pairs p.tree
+    (λ e. absurd (let n = s.below_root_word in omega (arith, e, n)))
     (λ some_node here. subst (λ (z : Shape × Content). IsCurrent p.plan pairs z.0 z.1) (λ i. (sym l.shaped i, sym (put_here p.contents k d) i)) new)
     (λ j some_node ne here cur. subst (IsCurrent p.plan pairs (p.plan.shape j)) (sym (put_else p.contents k d j ne)) record {
       its = cur.its;
@@ -208,11 +204,11 @@ leaf_inserts q id by v a c is leaf covers word m even d long changes ns vs p sea
       under = λ x lo. under_else p.plan p.pairs q.key q.value (p.plan.shape j).height (p.plan.shape j).top (lookup cur.its.children x)
           (λ one e. ne (sym here ∙ (ap (λ (h : ℕ). p.plan.home h (p.plan.shape j).top) one ∙ (ap (p.plan.home 1) (sym e) ∙ home_1)))) x lo (cur.under x lo);
     })
-    (λ x none. lookup-put_other p.pairs q.key q.value x (λ e. absurd (let n = s.below_trunk in let z : p.plan.home 1 (q.key / 256) ≡ 0 = ap (λ (y : ℕ). p.plan.home 1 (y / 256)) (sym e) ∙ none in omega (arith, z, home_1, n))) ∙ p.tree.absent x none) in
+    (λ x none. lookup-put_other p.pairs q.key q.value x (λ e. absurd (let n = s.below_root_word in let z : p.plan.home 1 (q.key / 256) ≡ 0 = ap (λ (y : ℕ). p.plan.home 1 (y / 256)) (sym e) ∙ none in omega (arith, z, home_1, n))) ∙ p.tree.absent x none) in
     let kn = p.each_view id v seat in
     let legal = put_legal p.history p.pairs q found p.legal refl in (
       view_of (p.history ++ inserted q found ∷ []) v.met [],
-      goes_by id v k word d ns vs p seat low held rises as_long no_maker cs' (λ j ne. put_else p.contents k d j ne) (λ _. sym (put_here p.contents k d)) (λ _ _ _. at_k) (λ _ _. (refl, (m, even))) [] tt tt (inserted q found) pairs by legal tree,
+      goes_by id v k word d ns vs p seat low held rises as_long cs' (λ j ne. put_else p.contents k d j ne) (λ _. sym (put_here p.contents k d)) (λ _ _. at_k) (λ _ _. (refl, (m, even))) [] tt tt (inserted q found) pairs by legal tree,
       record {
         found = found;
         its = old.its;

@@ -34,12 +34,12 @@ abbrev pub Covers : Shape → ℕ → Type 0
 Covers s k = up s.height k ≡ s.top
 
 -- the bytes above a level that isn't below the node, which all its keys have
-abbrev pub way : Shape → ℕ → ℕ
-way s h = up (h - s.height) s.top
+abbrev pub bytes_above : Shape → ℕ → ℕ
+bytes_above s h = up (h - s.height) s.top
 
 -- The node is on that level or below it, and those bytes are these.
 abbrev pub IsBelow : Shape → ℕ → ℕ → Type 0
-IsBelow s h t = (s.height ≤ h) × (way s h ≡ t)
+IsBelow s h t = (s.height ≤ h) × (bytes_above s h ≡ t)
 
 -- a node, by its number among all nodes
 pub record Spot : Type 0 where

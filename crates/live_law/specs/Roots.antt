@@ -1,4 +1,4 @@
--- THE TRUNK is read: which node is the root, and what is seen then.
+-- THE ROOT WORD is read: which node is the root, and what is seen then.
 use Rattle.std.specs.Prelude.{◌≡◌, ℕ, ◌<◌, List, [], ◌∷◌}
 use Rattle.share_rule.specs.History.{Entry}
 use Rattle.live_nodes.specs.Seats.{Place, Read}
@@ -24,6 +24,6 @@ module _ (sees : History → History → Type 0) where
   LearnsRoot v k word saw ps w = (x : ℕ) → saw ≡ (0, x) ∷ []
       → (0 < x → IsRoot v x ps w) × (x ≡ 0 → (ps ≡ []) × (w ≡ v))
 
-  -- A seat may learn it, whatever the trunk has.
+  -- A seat may learn it, whatever the root word has.
   abbrev pub MayLearnRoot : ℕ → View → Type 0
   MayLearnRoot id v = (word x : ℕ) (reads : List Read) → acts.Learns IsMap id v 0 word ((0, x) ∷ []) reads (LearnsRoot v 0 word ((0, x) ∷ []))

@@ -1,25 +1,25 @@
--- THE LAW. Node 0 is the trunk, and its one number names the root, or is 0. All others are nodes of the map: they were,
+-- THE LAW. Node 0 is the root word, and its one number names the root, or is 0. All others are nodes of the map: they were,
 -- are, or are going to be. One that is no longer may be used again, elsewhere in the map.
 use Rattle.std.specs.Prelude.{◌≡◌, ◌≢◌, ◌⊎◌, ℕ, zero, suc, ◌+◌, ◌-◌, ◌*◌, ◌/◌, ◌^◌, ◌<◌, ◌≤◌, nat_eq, Bool, true, false, List, [], ◌∷◌, ◌++◌, length, slice_index, Option, Some, None}
 use mathlib.Core.Option.{some}
 use lib.ListN.{get_elem?}
+use Rattle.node_base.specs.declared.base_node.NodeType.{NodeType}
 use Rattle.spec_map.specs.Map.{Pairs, lookup}
-use Rattle.node_table.specs.TableNode.{TableNode, Child}
-use Rattle.node_table.specs.declared.child.Child.TheVariants as below
+use Rattle.spec_node.specs.TableNode.{TableNode, Child}
+use Rattle.spec_node.specs.declared.child.Child.TheVariants as below
 use Rattle.share_rule.specs.History.{Entry, entries_of, IsHistory, IsLegalHistory}
 use Rattle.share_rule.specs.inner.Rule.{HasSeen}
 use Rattle.live_nodes.specs.Nodes.{Content, at, Node, node}
 use Rattle.live_nodes.specs.Seats.{Place, Each, IsIn, Agree}
 use Rattle.live_layout.specs.Encodes.{words_of, Encodes}
-use Rattle.live_law.specs.Levels.{up, digit, Shape, name_of, Covers, way, IsBelow, Spot, spot, place_at}
-use Rattle.live_law.specs.Views.{Own, locked, fresh, outgrown, trunk, Watch, watch, View, view_of, with_own, watching, number_of, rest_of, content_of, Ask, got, inserted}
+use Rattle.live_law.specs.Levels.{up, digit, Shape, name_of, Covers, bytes_above, IsBelow, Spot, spot, place_at}
+use Rattle.live_law.specs.Views.{Own, locked, detached, root_word, Watch, watch, View, view_of, with_met, watching, number_of, rest_of, content_of, Ask, got, inserted}
 
--- what each node is, which one is current where, and who has made one that nobody else knows. A node that is current is at
--- its own height, and at each level above it up to its parent's, which has no other node there
+-- what each node is, and which one is current where. A node that is current is at its own height, and at each level above it up
+-- to its parent's, which has no other node there
 pub record Plan : Type 0 where
   pub shape : ℕ → Shape
   pub home : ℕ → ℕ → ℕ
-  pub maker : ℕ → Option ℕ
 
 -- Its version word says that nobody writes it, and that it isn't obsolete.
 abbrev pub IsFree : Node → Type 0
@@ -67,7 +67,6 @@ module _ (d : Plan) where
   -- A node that is on this level, or is the highest below it: those bytes are above it there.
   pub record IsHouse (ns : List Node) (h t j : ℕ) : Type 0 where
     pub low : j < length ns
-    pub linked : d.maker j ≡ None
     pub level : h ≤ 8
     pub some_height : 1 ≤ (d.shape j).height
     pub below : IsBelow (d.shape j) h t
@@ -85,7 +84,7 @@ module _ (d : Plan) where
     pub prefixed : HasPrefix its.prefix s
     pub under : (b : ℕ) → b < 256 → IsUnder m s.height s.top b (lookup its.children b)
 
-  -- The trunk's number names the root.
+  -- The root word's number names the root.
   abbrev pub NamesRoot : ℕ → Type 0
   NamesRoot x = ((x ≡ 0) × (d.home 8 0 ≡ 0)) ⊎ ((1 ≤ d.home 8 0) × (1 ≤ x) × (x ≡ name_of (d.shape (d.home 8 0))))
 
@@ -95,14 +94,14 @@ module _ (d : Plan) where
     pub some_node : 1 ≤ a.number
     pub shaped : d.shape a.number ≡ a.shape
     pub tall : a.shape.height ≤ level
-    pub here : d.home level (way a.shape level) ≡ a.number
-    pub above : d.home (suc level) (way a.shape (suc level)) ≡ k
+    pub here : d.home level (bytes_above a.shape level) ≡ a.number
+    pub above : d.home (suc level) (bytes_above a.shape (suc level)) ≡ k
     pub above_high : (d.shape k).height ≡ suc level
 
   module _ (ns : List Node) where
     -- where it lies, and how long it is, for good
     pub record IsSpot (a : Spot) : Type 0 where
-      pub below_trunk : 1 ≤ a.number
+      pub below_root_word : 1 ≤ a.number
       pub low : a.number < length ns
       pub key : (d.shape a.number).key ≡ a.shape.key
       pub form : (d.shape a.number).form ≡ a.shape.form
@@ -110,27 +109,25 @@ module _ (d : Plan) where
     -- The seat has met the node: if it is free, it is current where it says. The root stays.
     pub record IsMet (a : Spot) : Type 0 where
       pub spot : IsSpot a
-      pub linked : d.maker a.number ≡ None
       pub lasts : a.shape.height ≡ 8 → (d.shape a.number ≡ a.shape) × (home_of a.shape ≡ a.number)
       pub current : IsFree (node ns a.number) → home_of (d.shape a.number) ≡ a.number
 
     -- The node above may be another by now. While it isn't, it leads to this node.
     pub record IsWatched (id : ℕ) (w : Watch) : Type 0 where
-      pub below_trunk : 1 ≤ w.above
+      pub below_root_word : 1 ≤ w.above
       pub low : w.above < length ns
       pub later : NoLater w.word (node ns w.above)
       pub leads : IsBound id w.word (node ns w.above) → LeadsDown w.above w.spot
 
-    pub record IsOutgrown (id : ℕ) (a : Spot) : Type 0 where
+    pub record IsDetached (id : ℕ) (a : Spot) : Type 0 where
       pub spot : IsSpot a
-      pub linked : d.maker a.number ≡ None
       pub holder : (node ns a.number).holder ≡ Some id
       pub replaced : home_of (d.shape a.number) ≢ a.number
 
     -- the nodes as they lie
     pub record AreNodes : Type 0 where
-      pub some_trunk : 0 < length ns
-      pub trunk_long : length (node ns 0).content ≡ 1
+      pub some_root_word : 0 < length ns
+      pub root_word_long : length (node ns 0).content ≡ 1
       pub placed : (k : ℕ) → 1 ≤ k → k < length ns → (node ns k).place ≡ (d.shape k).key
       pub long : (k : ℕ) → 1 ≤ k → k < length ns → length (node ns k).content ≡ words_of (d.shape k).form
       pub apart : (j k : ℕ) → 1 ≤ j → 1 ≤ k → j < length ns → k < length ns → (d.shape j).key ≡ (d.shape k).key → j ≡ k
@@ -148,18 +145,10 @@ module _ (d : Plan) where
         pub content : cs a.number ≡ c
         pub current : home_of a.shape ≡ a.number
 
-      pub record IsFresh (id : ℕ) (a : Spot) (c : Content) : Type 0 where
-        pub spot : IsSpot a
-        pub shaped : d.shape a.number ≡ a.shape
-        pub maker : d.maker a.number ≡ Some id
-        pub free : IsFree (node ns a.number)
-        pub content : cs a.number ≡ c
-
       abbrev pub IsOwn : ℕ → Own → Type 0
       IsOwn id (locked a c) = IsLocked id a c
-      IsOwn id (fresh a c) = IsFresh id a c
-      IsOwn id (outgrown a) = IsOutgrown id a
-      IsOwn id (trunk c) = ((node ns 0).holder ≡ Some id) × ((node ns 0).content ≡ c)
+      IsOwn id (detached a) = IsDetached id a
+      IsOwn id (root_word c) = ((node ns 0).holder ≡ Some id) × ((node ns 0).content ≡ c)
 
       pub record Knows (history : List (Entry ℕ)) (id : ℕ) (v : View) : Type 0 where
         pub seen : HasSeen history id v.seen
@@ -202,7 +191,7 @@ pub record Answers (caller : ℕ) (e : Entry ℕ) (seen seen' : List (Entry ℕ)
   pub fits : HasSeen whole caller seen
   pub legal : IsLegalHistory nat_eq (whole ++ e ∷ [])
 
--- The way of a key goes on at this node, if the node has keys that begin like it.
+-- The path of a key goes on at this node, if the node has keys that begin like it.
 pub record GoesTo (v : View) (a : Spot) (name : ℕ) (ps : List Place) (w : View) : Type 0 where
   pub spot : Spot
   pub place : ps ≡ place_at spot ∷ []
@@ -270,12 +259,12 @@ pub record IsOf (a : Spot) (s : Shape) (saw : List (ℕ × ℕ)) : Type 0 where
   pub deep : length its.prefix + s.height ≡ 8
   pub prefixed : HasPrefix its.prefix s
 
--- It may be on the way of the key, or not.
+-- It may be on the path of the key, or not.
 pub record Meets (Then : Ask → View → Spot → Option (Child ℕ) → List Place → View → Type 0) (q : Ask) (v : View) (a : Spot) (saw : List (ℕ × ℕ)) (ps : List Place) (w : View) : Type 0 where
   pub shape : Shape
   pub is : IsOf a shape saw
   pub of_kind : IsOfKind shape.height (lookup is.its.children (digit shape.height q.key))
-  pub on_way : Covers shape q.key → Then q v (spot a.number shape) (lookup is.its.children (digit shape.height q.key)) ps w
+  pub on_path : Covers shape q.key → Then q v (spot a.number shape) (lookup is.its.children (digit shape.height q.key)) ps w
   pub beside : (Covers shape q.key → ⊥) → w ≡ v
 
 abbrev pub LearnsNode : (Ask → View → Spot → Option (Child ℕ) → List Place → View → Type 0) → Ask → View → ℕ → ℕ → List (ℕ × ℕ) → List Place → View → Type 0
@@ -323,17 +312,17 @@ abbrev pub LearnsLocked : View → ℕ → Content → View → Type 0
 LearnsLocked v k c w = (a : Spot) → IsIn a v.met → a.number ≡ k → IsHeld v a c w
 
 -- AN OBSOLETE NODE was locked again.
-pub record IsRegained (v : View) (a : Spot) (w : View) : Type 0 where
+pub record IsReclaimed (v : View) (a : Spot) (w : View) : Type 0 where
   pub shape : Shape
   pub now : IsNow a shape
-  pub is : w ≡ view_of v.seen v.met (outgrown (spot a.number shape) ∷ v.own)
+  pub is : w ≡ view_of v.seen v.met (detached (spot a.number shape) ∷ v.own)
   pub apart : Each (IsApart a.number) v.own
 
-abbrev pub LearnsRegained : View → ℕ → Content → View → Type 0
-LearnsRegained v k c w = (a : Spot) → IsIn a v.met → a.number ≡ k → IsRegained v a w
+abbrev pub LearnsReclaimed : View → ℕ → Content → View → Type 0
+LearnsReclaimed v k c w = (a : Spot) → IsIn a v.met → a.number ≡ k → IsReclaimed v a w
 
-abbrev pub LearnsTrunk : View → ℕ → Content → View → Type 0
-LearnsTrunk v k c w = w ≡ view_of v.seen v.met (trunk c ∷ v.own)
+abbrev pub LearnsRootWord : View → ℕ → Content → View → Type 0
+LearnsRootWord v k c w = w ≡ view_of v.seen v.met (root_word c ∷ v.own)
 
 -- What the seat had to itself last is no longer so, and nothing else changes.
 abbrev pub StaysSame : View → ℕ → Content → View → Type 0
@@ -351,44 +340,31 @@ pub record Inserted (q : Ask) (v w : View) : Type 0 where
 abbrev pub Inserts : Ask → View → ℕ → Content → View → Type 0
 Inserts q v k c w = Inserted q v w
 
--- A NODE was unlocked, which leads to a new node now: to one more, or to one in the place of another.
-abbrev pub leads_on : List Own → List Spot
-leads_on (fresh a c ∷ os) = a ∷ []
-leads_on os = []
-
-abbrev pub left_over : List Own → List Own
-left_over (fresh a c ∷ locked b e ∷ locked p f ∷ []) = outgrown b ∷ []
-left_over os = []
-
-abbrev pub Links : View → ℕ → Content → View → Type 0
-Links v k c w = w ≡ view_of v.seen (leads_on v.own ++ v.met) (left_over v.own)
-
--- A NODE was unlocked, which leads to one that is used again, for the way of a key at some height. That one stays locked, and
--- is going to have this content.
+-- A NODE was unlocked, or the root word, which leads on now to one that was obsolete, for the path of a key at some height: to one
+-- more, or to one in the place of another. That one stays locked, and is going to have this content.
 abbrev pub again : Ask → Spot → Spot
 again q x = spot x.number record { key = x.shape.key; form = x.shape.form; height = q.height; top = up q.height q.key }
 
 abbrev pub leads_again : Ask → List Own → List Spot
-leads_again q (outgrown x ∷ os) = again q x ∷ []
+leads_again q (detached x ∷ os) = again q x ∷ []
 leads_again q os = []
 
 abbrev pub left_again : Ask → Content → List Own → List Own
-left_again q c (outgrown x ∷ locked p f ∷ []) = locked (again q x) c ∷ []
-left_again q c (outgrown x ∷ locked b e ∷ locked p f ∷ []) = locked (again q x) c ∷ outgrown b ∷ []
+left_again q c (detached x ∷ locked p f ∷ []) = locked (again q x) c ∷ []
+left_again q c (detached x ∷ root_word f ∷ []) = locked (again q x) c ∷ []
+left_again q c (detached x ∷ locked b e ∷ locked p f ∷ []) = locked (again q x) c ∷ detached b ∷ []
 left_again q c os = []
 
 abbrev pub LinksAgain : Ask → Content → View → ℕ → Content → View → Type 0
 LinksAgain q d v k c w = w ≡ view_of v.seen (leads_again q v.own ++ v.met) (left_again q d v.own)
 
--- A NODE was made, for the way of a key at some height.
-pub record IsNew (q : Ask) (v : View) (key : ℕ) (c : Content) (k : ℕ) (w : View) : Type 0 where
+-- A NODE of that form was made. It is obsolete.
+pub record IsNew (form : NodeType) (v : View) (key k : ℕ) (w : View) : Type 0 where
   pub spot : Spot
   pub number : spot.number ≡ k
   pub placed : spot.shape.key ≡ key
-  pub height : spot.shape.height ≡ q.height
-  pub covers : Covers spot.shape q.key
-  pub form : (n : TableNode ℕ) → Encodes c n → spot.shape.form ≡ n.form
-  pub is : w ≡ with_own v (fresh spot c ∷ v.own)
+  pub in_form : spot.shape.form ≡ form
+  pub is : w ≡ with_met v (spot ∷ v.met)
 
-abbrev pub IsMade : Ask → View → ℕ → Content → ℕ → View → Type 0
-IsMade q v key c k w = IsNew q v key c k w
+abbrev pub IsMade : NodeType → View → ℕ → Content → ℕ → View → Type 0
+IsMade form v key c k w = IsNew form v key k w

@@ -9,12 +9,10 @@ use Rattle.live_law.specs.Levels.{Spot}
 pub data Own : Type 0 where
   -- it is locked, and has this content
   locked : Spot → Content → Own
-  -- it is new, and nobody else knows it
-  fresh : Spot → Content → Own
   -- it is locked, and no part of the map: any more, or as yet
-  outgrown : Spot → Own
-  -- the trunk is locked
-  trunk : Content → Own
+  detached : Spot → Own
+  -- the root word is locked
+  root_word : Content → Own
 
 -- A node as it was read below another: the number of the one above, and the word by which that one was free, or none, where
 -- the seat itself has it locked. While that is so, the node is as it was read.
@@ -37,8 +35,8 @@ pub record View : Type 0 where
 abbrev pub view_of : List (Entry ℕ) → List Spot → List Own → View
 view_of s m o = record { seen = s; met = m; own = o; watched = [] }
 
-abbrev pub with_own : View → List Own → View
-with_own v os = record { seen = v.seen; met = v.met; own = os; watched = v.watched }
+abbrev pub with_met : View → List Spot → View
+with_met v ms = record { seen = v.seen; met = ms; own = v.own; watched = v.watched }
 
 abbrev pub watching : View → Watch → View
 watching v w = record { seen = v.seen; met = v.met; own = v.own; watched = w ∷ [] }
@@ -51,16 +49,14 @@ rest_of (o ∷ os) = os
 -- which node it is
 abbrev pub number_of : Own → ℕ
 number_of (locked a c) = a.number
-number_of (fresh a c) = a.number
-number_of (outgrown a) = a.number
-number_of (trunk c) = 0
+number_of (detached a) = a.number
+number_of (root_word c) = 0
 
 abbrev pub content_of : List Own → Content
 content_of [] = []
 content_of (locked a c ∷ os) = c
-content_of (fresh a c ∷ os) = c
-content_of (outgrown a ∷ os) = []
-content_of (trunk c ∷ os) = c
+content_of (detached a ∷ os) = []
+content_of (root_word c ∷ os) = c
 
 -- who calls, with which key and value, and at which height
 pub record Ask : Type 0 where

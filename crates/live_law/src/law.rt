@@ -1,13 +1,13 @@
 //! The law, and what is learnt by it.
 
 use live_nodes::law::NodeLaw;
-use live_nodes::plays::{Birth, Change, Lesson};
+use live_nodes::plays::{OnCheck, OnLock, OnMake};
 use std::marker::{Brand, Model, PhantomData};
 
 /// What a seat knows of the map. It exists in proofs alone.
-pub struct Mine;
+pub struct MapView;
 
-impl Model for Mine {
+impl Model for MapView {
     ghost use Rattle.std.specs.Prelude.{[]};
     ghost use Rattle.live_law.specs.Views.{View, view_of};
 
@@ -17,9 +17,9 @@ impl Model for Mine {
 }
 
 /// The nodes are those of a map.
-pub struct Levels;
+pub struct MapLaw;
 
-impl NodeLaw<Mine> for Levels {
+impl NodeLaw<MapView> for MapLaw {
     ghost use Rattle.std.specs.Prelude.{[]};
     ghost use Rattle.live_law.specs.Views.{view_of};
     ghost use Rattle.live_law.specs.Tree.{IsMap};
@@ -56,7 +56,7 @@ pub struct Look<A> {
     of: PhantomData<A>,
 }
 
-impl<A: Asks> Lesson<Mine> for Look<A> {
+impl<A: Asks> OnCheck<MapView> for Look<A> {
     ghost use Rattle.live_law.specs.Tree.{LearnsNode, Looks};
 
     ghost told = { LearnsNode (Looks A.reads) A.ask };
@@ -65,7 +65,7 @@ impl<A: Asks> Lesson<Mine> for Look<A> {
 /// A node was read, and what it is now.
 pub struct Head;
 
-impl Lesson<Mine> for Head {
+impl OnCheck<MapView> for Head {
     ghost use Rattle.live_law.specs.Tree.{LearnsHead};
 
     ghost told = { LearnsHead };
@@ -76,7 +76,7 @@ pub struct Miss<A> {
     of: PhantomData<A>,
 }
 
-impl<A: Asks> Lesson<Mine> for Miss<A> {
+impl<A: Asks> OnCheck<MapView> for Miss<A> {
     ghost use Rattle.live_law.specs.Tree.{LearnsMiss};
 
     ghost told = { LearnsMiss A.ask };
@@ -105,7 +105,7 @@ pub struct Below<N> {
     of: PhantomData<N>,
 }
 
-impl<N: Above> Lesson<Mine> for Below<N> {
+impl<N: Above> OnCheck<MapView> for Below<N> {
     ghost use Rattle.live_law.specs.Tree.{LearnsBelow};
 
     ghost told = { LearnsBelow N.number N.word };
@@ -114,34 +114,34 @@ impl<N: Above> Lesson<Mine> for Below<N> {
 /// A node was locked.
 pub struct Locked;
 
-impl Change<Mine> for Locked {
+impl OnLock<MapView> for Locked {
     ghost use Rattle.live_law.specs.Tree.{LearnsLocked};
 
     ghost told = { LearnsLocked };
 }
 
 /// An obsolete node was locked again.
-pub struct Regained;
+pub struct Reclaimed;
 
-impl Change<Mine> for Regained {
-    ghost use Rattle.live_law.specs.Tree.{LearnsRegained};
+impl OnLock<MapView> for Reclaimed {
+    ghost use Rattle.live_law.specs.Tree.{LearnsReclaimed};
 
-    ghost told = { LearnsRegained };
+    ghost told = { LearnsReclaimed };
 }
 
-/// The trunk was locked.
-pub struct TrunkLocked;
+/// The root word was locked.
+pub struct RootWordLocked;
 
-impl Change<Mine> for TrunkLocked {
-    ghost use Rattle.live_law.specs.Tree.{LearnsTrunk};
+impl OnLock<MapView> for RootWordLocked {
+    ghost use Rattle.live_law.specs.Tree.{LearnsRootWord};
 
-    ghost told = { LearnsTrunk };
+    ghost told = { LearnsRootWord };
 }
 
 /// A node is unlocked, and the map is as it was.
 pub struct Same;
 
-impl Change<Mine> for Same {
+impl OnLock<MapView> for Same {
     ghost use Rattle.live_law.specs.Tree.{StaysSame};
 
     ghost told = { StaysSame };
@@ -152,19 +152,10 @@ pub struct Insert<A> {
     of: PhantomData<A>,
 }
 
-impl<A: Asks> Change<Mine> for Insert<A> {
+impl<A: Asks> OnLock<MapView> for Insert<A> {
     ghost use Rattle.live_law.specs.Tree.{Inserts};
 
     ghost told = { Inserts A.ask };
-}
-
-/// A node is unlocked, and leads to a new one.
-pub struct Link;
-
-impl Change<Mine> for Link {
-    ghost use Rattle.live_law.specs.Tree.{Links};
-
-    ghost told = { Links };
 }
 
 /// What a node is going to have. A caller picks it.
@@ -180,24 +171,37 @@ impl Fills for Brand {
     ghost content = { [] };
 }
 
-/// A node is unlocked, and leads to one that is used again.
+/// A node is unlocked, or the root word, and leads to one that was obsolete.
 pub struct Again<A, C> {
     of: PhantomData<(A, C)>,
 }
 
-impl<A: Asks, C: Fills> Change<Mine> for Again<A, C> {
+impl<A: Asks, C: Fills> OnLock<MapView> for Again<A, C> {
     ghost use Rattle.live_law.specs.Tree.{LinksAgain};
 
     ghost told = { LinksAgain A.ask C.content };
 }
 
-/// A node is made.
-pub struct New<A> {
-    of: PhantomData<A>,
+/// Which form a node has. A caller picks it.
+pub trait HasForm {
+    ghost use Rattle.node_base.specs.declared.base_node.NodeType.{NodeType};
+
+    ghost form: { NodeType };
 }
 
-impl<A: Asks> Birth<Mine> for New<A> {
+impl HasForm for Brand {
+    ghost use Rattle.node_base.specs.declared.base_node.NodeType.TheVariants.{N4};
+
+    ghost form = { N4 };
+}
+
+/// An obsolete node is made.
+pub struct New<F> {
+    of: PhantomData<F>,
+}
+
+impl<F: HasForm> OnMake<MapView> for New<F> {
     ghost use Rattle.live_law.specs.Tree.{IsMade};
 
-    ghost told = { IsMade A.ask };
+    ghost told = { IsMade F.form };
 }

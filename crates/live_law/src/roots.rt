@@ -1,10 +1,10 @@
 //! What is learnt of the root, and what is seen then.
 
-use crate::law::Mine;
-use live_nodes::plays::Lesson;
+use crate::law::MapView;
+use live_nodes::plays::OnCheck;
 use std::marker::{Brand, PhantomData};
 
-/// What is seen once the trunk was read, by what was seen before. A caller picks it.
+/// What is seen once the root word was read, by what was seen before. A caller picks it.
 pub trait Sees {
     ghost use Rattle.live_law.specs.Roots.{History};
 
@@ -22,7 +22,7 @@ pub struct Root<S> {
     of: PhantomData<S>,
 }
 
-impl<S: Sees> Lesson<Mine> for Root<S> {
+impl<S: Sees> OnCheck<MapView> for Root<S> {
     ghost use Rattle.live_law.specs.Roots.{LearnsRoot};
 
     ghost told = { LearnsRoot S.sees };

@@ -2,7 +2,7 @@
 use Rattle.std.proofs.Common.{◌≡◌, ℕ, ◌<◌, ◌≤◌, Bool, true, List, length, Option, Some, None, refl, subst, arith}
 use Rattle.spec_map.specs.Map.{lookup}
 use Rattle.node_base.specs.Form.{limit}
-use Rattle.node_table.specs.TableNode.{TableNode, Child}
+use Rattle.spec_node.specs.TableNode.{TableNode, Child}
 use Rattle.live_layout.specs.Encodes.{HasChildren, Encodes, IsBelow, Stands}
 use Rattle.live_layout.proofs.StandLaws.{stands-lookup, leaf-found}
 use Rattle.live_layout.specs.Order.{IsNearest, HasNearest}

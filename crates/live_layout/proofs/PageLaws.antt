@@ -5,7 +5,7 @@ use Rattle.std.proofs.lemmas.List.{take_more_set, take-set-le, drop-append-le, d
 use Rattle.spec_map.specs.Map.{Pairs, lookup, Rises}
 use Rattle.spec_map.proofs.MapLaws.{Rises-wider}
 use Rattle.spec_map.proofs.JoinLaws.{Rises-append, lookup-above, lookup-append_left, lookup-append_right}
-use Rattle.node_table.specs.TableNode.{TableNode}
+use Rattle.spec_node.specs.TableNode.{TableNode}
 use Rattle.live_layout.specs.Encodes.{payload_of}
 use Rattle.live_layout.specs.Page.{IsNext, AreListed}
 

@@ -5,8 +5,8 @@ use Rattle.spec_map.specs.Map.{lookup, put, without}
 use Rattle.node_base.specs.Form.{limit, form_place}
 use Rattle.node_base.specs.declared.base_node.NodeType.{NodeType}
 use Rattle.node_base.specs.declared.base_node.NodeType.TheVariants.{N4, N16, N48, N256}
-use Rattle.node_table.specs.TableNode.{TableNode, Child, MayHave}
-use Rattle.node_table.specs.declared.child.Child.TheVariants.{Payload, Node}
+use Rattle.spec_node.specs.TableNode.{TableNode, Child, MayHave}
+use Rattle.spec_node.specs.declared.child.Child.TheVariants.{Payload, Node}
 use Rattle.live_layout.specs.Words.{at}
 use Rattle.live_layout.specs.Head.{IsHead}
 use Rattle.live_layout.specs.Encodes.{IsWord, Stands, HasChildren, counted, Encodes, with_child, in_form, empty_node, IsBelow, AreOfKind, payload_of}

@@ -3,8 +3,8 @@ use Rattle.std.specs.Prelude.{◌≡◌, ℕ, ◌+◌, ◌*◌, ◌<◌, ◌≤�
 use Rattle.spec_map.specs.Map.{with_answer}
 use Rattle.node_base.specs.Form.{limit, form_place}
 use Rattle.node_base.specs.declared.base_node.NodeType.{NodeType}
-use Rattle.node_table.specs.TableNode.{TableNode, Child, MayHave}
-use Rattle.node_table.specs.declared.child.Child.TheVariants.{Payload, Node}
+use Rattle.spec_node.specs.TableNode.{TableNode, Child, MayHave}
+use Rattle.spec_node.specs.declared.child.Child.TheVariants.{Payload, Node}
 use Rattle.live_layout.specs.Words.{at}
 use Rattle.live_layout.specs.Head.{IsHead}
 use Rattle.live_layout.specs.ListCells.{count, first, HasList}

@@ -1,7 +1,7 @@
 -- The children of a node in the order of their bytes, upwards (true) or downwards.
 use Rattle.std.specs.Prelude.{◌≡◌, ℕ, ◌<◌, ◌≤◌, Bool, true, false, List, Option, Some, None}
 use Rattle.spec_map.specs.Map.{lookup}
-use Rattle.node_table.specs.TableNode.{Child}
+use Rattle.spec_node.specs.TableNode.{Child}
 use Rattle.live_layout.specs.Encodes.{IsBelow}
 
 -- the second isn't before the first

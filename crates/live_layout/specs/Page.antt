@@ -1,7 +1,7 @@
 -- The pairs of a leaf, as they are listed.
 use Rattle.std.specs.Prelude.{◌≡◌, ℕ, ◌+◌, ◌<◌, ◌≤◌, List, map, Option, Some, None}
 use Rattle.spec_map.specs.Map.{Pairs, lookup, Rises}
-use Rattle.node_table.specs.TableNode.{TableNode}
+use Rattle.spec_node.specs.TableNode.{TableNode}
 use Rattle.live_layout.specs.Encodes.{payload_of}
 
 -- the leaf's next payload from a byte on, up to another

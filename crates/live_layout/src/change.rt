@@ -3,17 +3,17 @@
 ghost use Rattle.std.specs.Prelude.{◌≡◌, ◌↔◌, ◌≤◌, ℕ, length, Some, None, IfSome, IfNone, IsTrue, false};
 ghost use Rattle.spec_map.specs.Map.{lookup};
 ghost use Rattle.node_base.specs.Form.{limit};
-ghost use Rattle.node_table.specs.TableNode.{TableNode, Child, MayHave};
+ghost use Rattle.spec_node.specs.TableNode.{TableNode, Child, MayHave};
 ghost use Rattle.live_layout.specs.Words.{Stays, Looks};
 ghost use Rattle.live_layout.specs.Encodes.{words_of, most, IsCounted, HasRoom, Encodes, IsBelow, IsWord, with_child};
 
 use crate::form::room_of;
-use crate::words::Draft;
+use crate::words::WriteWords;
 use crate::{by_key, list, places};
 use node_base::base_node::NodeType;
 
 /// Whether there is no room for another child.
-pub fn is_full<S, D: Draft<S>>(draft: &D, form: NodeType, seat: &mut S) -> bool
+pub fn is_full<S, D: WriteWords<S>>(draft: &D, form: NodeType, seat: &mut S) -> bool
     requires may { D.may_write draft.now seat.old }
     requires long { length (D.words draft.now seat.old) ≡ words_of form }
     ensures seat { Looks D.may_write D.words draft.now seat.old seat.new }
@@ -28,7 +28,7 @@ pub fn is_full<S, D: Draft<S>>(draft: &D, form: NodeType, seat: &mut S) -> bool
 }
 
 /// Gives a byte that has none a child, where there is room. Three stores, or two where a list has few children.
-pub fn put<S, D: Draft<S>>(draft: &D, form: NodeType, byte: u8, child: u64, seat: &mut S)
+pub fn put<S, D: WriteWords<S>>(draft: &D, form: NodeType, byte: u8, child: u64, seat: &mut S)
     requires may { D.may_write draft.now seat.old }
     requires long { length (D.words draft.now seat.old) ≡ words_of form }
     requires left { HasRoom form (D.words draft.now seat.old) }
@@ -46,7 +46,7 @@ pub fn put<S, D: Draft<S>>(draft: &D, form: NodeType, byte: u8, child: u64, seat
 }
 
 /// Gives a byte that has a child another one, by one store. The word before, or `None` where it has none.
-pub fn change<S, D: Draft<S>>(
+pub fn change<S, D: WriteWords<S>>(
     draft: &D,
     form: NodeType,
     byte: u8,
@@ -72,7 +72,7 @@ pub fn change<S, D: Draft<S>>(
 }
 
 /// Takes a byte's child out. Its word, or `None` where the byte has none.
-pub fn take<S, D: Draft<S>>(draft: &D, form: NodeType, byte: u8, seat: &mut S) -> Option<u64>
+pub fn take<S, D: WriteWords<S>>(draft: &D, form: NodeType, byte: u8, seat: &mut S) -> Option<u64>
     requires may { D.may_write draft.now seat.old }
     requires long { length (D.words draft.now seat.old) ≡ words_of form }
     requires few { IsCounted form (D.words draft.now seat.old) }

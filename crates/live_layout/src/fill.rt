@@ -3,7 +3,7 @@
 ghost use Rattle.std.specs.Prelude.{◌≡◌, ◌≢◌, ◌+◌, ◌<◌, ◌≤◌, ℕ, List, length, Some, None};
 ghost use Rattle.node_base.specs.Form.{limit, form_place, next_form, smaller_form};
 ghost use Rattle.node_base.specs.declared.base_node.NodeType.TheVariants.{N4, N256};
-ghost use Rattle.node_table.specs.TableNode.{TableNode};
+ghost use Rattle.spec_node.specs.TableNode.{TableNode};
 ghost use Rattle.live_layout.specs.Words.{at, Stays, Apart};
 ghost use Rattle.live_layout.specs.Head.{IsHead};
 ghost use Rattle.live_layout.specs.ListCells.{count, first};
@@ -11,12 +11,12 @@ ghost use Rattle.live_layout.specs.Encodes.{words_of, counted, most, IsCounted, 
 
 use crate::form::{place_of, room_of};
 use crate::head::{head, with_form};
-use crate::words::Draft;
+use crate::words::WriteWords;
 use crate::{list, moves, places};
 use node_base::base_node::NodeType;
 
 /// A node of this form without children.
-pub fn lay<S, E: Draft<S>>(to: &E, form: NodeType, prefix: &[u8], seat: &mut S)
+pub fn lay<S, E: WriteWords<S>>(to: &E, form: NodeType, prefix: &[u8], seat: &mut S)
     requires may { E.may_write to.now seat.old }
     requires long { length (E.words to.now seat.old) ≡ words_of form }
     requires short { length prefix.now ≤ 7 }
@@ -33,7 +33,7 @@ pub fn lay<S, E: Draft<S>>(to: &E, form: NodeType, prefix: &[u8], seat: &mut S)
 }
 
 // The head of a new node with the same prefix.
-fn lay_head<S, D: Draft<S>, E: Draft<S>>(from: &D, to: &E, form: NodeType, seat: &mut S)
+fn lay_head<S, D: WriteWords<S>, E: WriteWords<S>>(from: &D, to: &E, form: NodeType, seat: &mut S)
     requires may { D.may_write from.now seat.old × E.may_write to.now seat.old }
     requires some { (0 < length (D.words from.now seat.old))
         × (0 < length (E.words to.now seat.old)) }
@@ -47,7 +47,7 @@ fn lay_head<S, D: Draft<S>, E: Draft<S>>(from: &D, to: &E, form: NodeType, seat:
 }
 
 // The children of a list in another list.
-fn copy_list<S, D: Draft<S>, E: Draft<S>>(
+fn copy_list<S, D: WriteWords<S>, E: WriteWords<S>>(
     from: &D,
     room: usize,
     to: &E,
@@ -74,7 +74,7 @@ fn copy_list<S, D: Draft<S>, E: Draft<S>>(
 }
 
 // The children of a list in places.
-fn spread_list<S, D: Draft<S>, E: Draft<S>>(from: &D, room: usize, to: &E, seat: &mut S)
+fn spread_list<S, D: WriteWords<S>, E: WriteWords<S>>(from: &D, room: usize, to: &E, seat: &mut S)
     requires room { room ≤ 48 }
     requires may { D.may_write from.now seat.old × E.may_write to.now seat.old }
     requires apart { Apart D.may_write D.words E.rest from.now to.now }
@@ -93,7 +93,7 @@ fn spread_list<S, D: Draft<S>, E: Draft<S>>(from: &D, room: usize, to: &E, seat:
 }
 
 // The children of places in a list.
-fn gather_places<S, D: Draft<S>, E: Draft<S>>(
+fn gather_places<S, D: WriteWords<S>, E: WriteWords<S>>(
     from: &D,
     to: &E,
     room: usize,
@@ -116,7 +116,7 @@ fn gather_places<S, D: Draft<S>, E: Draft<S>>(
 }
 
 /// A node of the next form, with the same children. It has room for one more.
-pub fn grow<S, D: Draft<S>, E: Draft<S>>(from: &D, form: NodeType, to: &E, seat: &mut S)
+pub fn grow<S, D: WriteWords<S>, E: WriteWords<S>>(from: &D, form: NodeType, to: &E, seat: &mut S)
     requires form { form ≢ N256 }
     requires may { D.may_write from.now seat.old × E.may_write to.now seat.old }
     requires apart { Apart D.may_write D.words E.rest from.now to.now }
@@ -138,7 +138,7 @@ pub fn grow<S, D: Draft<S>, E: Draft<S>>(from: &D, form: NodeType, to: &E, seat:
 }
 
 /// A node of a larger form, with the same children.
-pub fn grow_to<S, D: Draft<S>, E: Draft<S>>(
+pub fn grow_to<S, D: WriteWords<S>, E: WriteWords<S>>(
     from: &D,
     form: NodeType,
     to: &E,
@@ -177,7 +177,7 @@ pub fn grow_to<S, D: Draft<S>, E: Draft<S>>(
 }
 
 /// A node of the form before, with the same children, of which there are few enough.
-pub fn shrink<S, D: Draft<S>, E: Draft<S>>(from: &D, form: NodeType, to: &E, seat: &mut S)
+pub fn shrink<S, D: WriteWords<S>, E: WriteWords<S>>(from: &D, form: NodeType, to: &E, seat: &mut S)
     requires form { form ≢ N4 }
     requires may { D.may_write from.now seat.old × E.may_write to.now seat.old }
     requires apart { Apart D.may_write D.words E.rest from.now to.now }

@@ -4,7 +4,7 @@ ghost use Rattle.std.specs.Prelude.{◌≡◌, ℕ, ◌+◌, ◌*◌, ◌^◌, �
 ghost use Rattle.node_base.specs.Form.{limit, form_place, next_form, smaller_form};
 ghost use Rattle.node_base.specs.declared.base_node.NodeType.{NodeType};
 ghost use Rattle.live_layout.specs.Head.{IsHead};
-ghost use Rattle.node_table.specs.declared.child.Child.TheVariants.{Node};
+ghost use Rattle.spec_node.specs.declared.child.Child.TheVariants.{Node};
 ghost use Rattle.live_layout.specs.Encodes.{words_of, IsWord};
 
 use crate::head::form_of;

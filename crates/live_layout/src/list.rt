@@ -7,7 +7,7 @@ ghost use Rattle.live_layout.specs.ListCells.{count, first, key, child, HasList,
 ghost use Rattle.live_layout.specs.inner.Stores.{StoresKey, Stores};
 
 use crate::lanes::{find_lane, lane_of, with_lane};
-use crate::words::{Cells, Draft};
+use crate::words::{ReadWords, WriteWords};
 
 /// Where the children's words begin, if there is room for so many.
 pub fn first_child(room: usize) -> usize
@@ -18,7 +18,12 @@ pub fn first_child(room: usize) -> usize
 }
 
 /// The place of a key's child, and its word. It reads the words of keys up to that of the key, and the child's.
-pub fn find<S, R: Cells<S>>(cells: &R, room: usize, byte: u8, seat: &mut S) -> Option<(usize, u64)>
+pub fn find<S, R: ReadWords<S>>(
+    cells: &R,
+    room: usize,
+    byte: u8,
+    seat: &mut S,
+) -> Option<(usize, u64)>
     requires room { room ≤ 48 }
     requires cells { R.may_read cells.now seat.old × (R.long cells.now ≡ first room + room) }
     ensures seat { Stays R.may_read R.rest cells.now seat.old seat.new }
@@ -49,7 +54,7 @@ pub fn find<S, R: Cells<S>>(cells: &R, room: usize, byte: u8, seat: &mut S) -> O
 }
 
 /// How many children there are.
-pub fn count_of<S, D: Draft<S>>(draft: &D, seat: &mut S) -> usize
+pub fn count_of<S, D: WriteWords<S>>(draft: &D, seat: &mut S) -> usize
     requires draft { D.may_write draft.now seat.old × (1 < length (D.words draft.now seat.old)) }
     ensures seat { Looks D.may_write D.words draft.now seat.old seat.new }
     ensures is { result ≡ count (D.words draft.now seat.old) }
@@ -59,7 +64,7 @@ pub fn count_of<S, D: Draft<S>>(draft: &D, seat: &mut S) -> usize
 }
 
 // The key of the child at a place.
-pub(crate) fn key_at<S, D: Draft<S>>(draft: &D, place: usize, seat: &mut S) -> u8
+pub(crate) fn key_at<S, D: WriteWords<S>>(draft: &D, place: usize, seat: &mut S) -> u8
     requires place { place < 48 }
     requires may { D.may_write draft.now seat.old }
     requires inside { 1 + (place + 1) / 8 < length (D.words draft.now seat.old) }
@@ -71,7 +76,7 @@ pub(crate) fn key_at<S, D: Draft<S>>(draft: &D, place: usize, seat: &mut S) -> u
 }
 
 /// Whether there is no room for another child.
-pub fn is_full<S, D: Draft<S>>(draft: &D, room: usize, seat: &mut S) -> bool
+pub fn is_full<S, D: WriteWords<S>>(draft: &D, room: usize, seat: &mut S) -> bool
     requires draft { D.may_write draft.now seat.old × (1 < length (D.words draft.now seat.old)) }
     ensures seat { Looks D.may_write D.words draft.now seat.old seat.new }
     ensures is { IsTrue result ↔ (room ≤ count (D.words draft.now seat.old)) }
@@ -80,7 +85,7 @@ pub fn is_full<S, D: Draft<S>>(draft: &D, room: usize, seat: &mut S) -> bool
 }
 
 // Stores the key of a place and the count: by one store where both are in one word.
-fn store_key<S, D: Draft<S>>(draft: &D, place: usize, byte: u8, count: u8, seat: &mut S)
+fn store_key<S, D: WriteWords<S>>(draft: &D, place: usize, byte: u8, count: u8, seat: &mut S)
     requires place { place < 48 }
     requires may { D.may_write draft.now seat.old }
     requires inside { 1 + (place + 1) / 8 < length (D.words draft.now seat.old) }
@@ -99,7 +104,7 @@ fn store_key<S, D: Draft<S>>(draft: &D, place: usize, byte: u8, count: u8, seat:
 }
 
 // Stores the key and the word of the child at a place, and the count.
-fn store<S, D: Draft<S>>(
+fn store<S, D: WriteWords<S>>(
     draft: &D,
     room: usize,
     place: usize,
@@ -119,7 +124,7 @@ fn store<S, D: Draft<S>>(
 }
 
 /// Gives a key that has none a child.
-pub fn put<S, D: Draft<S>>(draft: &D, room: usize, byte: u8, child: u64, seat: &mut S)
+pub fn put<S, D: WriteWords<S>>(draft: &D, room: usize, byte: u8, child: u64, seat: &mut S)
     requires room { room ≤ 48 }
     requires may { D.may_write draft.now seat.old }
     requires long { length (D.words draft.now seat.old) ≡ first room + room }
@@ -137,7 +142,7 @@ pub fn put<S, D: Draft<S>>(draft: &D, room: usize, byte: u8, child: u64, seat: &
 }
 
 /// Gives the key of a place another child. One store.
-pub fn change<S, D: Draft<S>>(draft: &D, room: usize, place: usize, child: u64, seat: &mut S)
+pub fn change<S, D: WriteWords<S>>(draft: &D, room: usize, place: usize, child: u64, seat: &mut S)
     requires room { (room ≤ 48) × (place < room) }
     requires may { D.may_write draft.now seat.old }
     requires long { length (D.words draft.now seat.old) ≡ first room + room }
@@ -152,7 +157,7 @@ pub fn change<S, D: Draft<S>>(draft: &D, room: usize, place: usize, child: u64, 
 }
 
 /// Takes the child at a place out. The last one comes there.
-pub fn take<S, D: Draft<S>>(draft: &D, room: usize, place: usize, seat: &mut S)
+pub fn take<S, D: WriteWords<S>>(draft: &D, room: usize, place: usize, seat: &mut S)
     requires room { room ≤ 48 }
     requires may { D.may_write draft.now seat.old }
     requires long { length (D.words draft.now seat.old) ≡ first room + room }
@@ -172,7 +177,7 @@ pub fn take<S, D: Draft<S>>(draft: &D, room: usize, place: usize, seat: &mut S)
 }
 
 /// No children. The head stays. One store.
-pub fn clear<S, D: Draft<S>>(draft: &D, room: usize, seat: &mut S)
+pub fn clear<S, D: WriteWords<S>>(draft: &D, room: usize, seat: &mut S)
     requires room { room ≤ 48 }
     requires may { D.may_write draft.now seat.old }
     requires long { length (D.words draft.now seat.old) ≡ first room + room }
@@ -186,7 +191,7 @@ pub fn clear<S, D: Draft<S>>(draft: &D, room: usize, seat: &mut S)
 }
 
 /// Fills other words, with room for others to come, with the same children. The head there stays.
-pub fn copy<S, D: Draft<S>, E: Draft<S>>(
+pub fn copy<S, D: WriteWords<S>, E: WriteWords<S>>(
     from: &D,
     room: usize,
     to: &E,

@@ -8,10 +8,10 @@ ghost use Rattle.live_layout.specs.PlaceCells.{HasPlaces};
 
 use crate::list::{clear as clear_list, count_of, first_child, key_at, put as put_last};
 use crate::places::{clear, is_set, put};
-use crate::words::Draft;
+use crate::words::WriteWords;
 
 /// Gives places to the children of a list. The head there stays.
-pub fn spread<S, D: Draft<S>, E: Draft<S>>(from: &D, room: usize, to: &E, seat: &mut S)
+pub fn spread<S, D: WriteWords<S>, E: WriteWords<S>>(from: &D, room: usize, to: &E, seat: &mut S)
     requires room { room ≤ 48 }
     requires may { D.may_write from.now seat.old × E.may_write to.now seat.old }
     requires apart { Apart D.may_write D.words E.rest from.now to.now }
@@ -35,7 +35,13 @@ pub fn spread<S, D: Draft<S>, E: Draft<S>>(from: &D, room: usize, to: &E, seat: 
 }
 
 // Puts a key's child, if it has one, behind those of the keys before.
-fn gather_one<S, D: Draft<S>, E: Draft<S>>(from: &D, to: &E, room: usize, byte: u8, seat: &mut S)
+fn gather_one<S, D: WriteWords<S>, E: WriteWords<S>>(
+    from: &D,
+    to: &E,
+    room: usize,
+    byte: u8,
+    seat: &mut S,
+)
     requires room { room ≤ 48 }
     requires may { D.may_write from.now seat.old × E.may_write to.now seat.old }
     requires long { (length (D.words from.now seat.old) ≡ 262)
@@ -60,7 +66,7 @@ fn gather_one<S, D: Draft<S>, E: Draft<S>>(from: &D, to: &E, room: usize, byte: 
 }
 
 /// Makes a list of the children in places, of which there are few. The head there stays.
-pub fn gather<S, D: Draft<S>, E: Draft<S>>(from: &D, to: &E, room: usize, seat: &mut S)
+pub fn gather<S, D: WriteWords<S>, E: WriteWords<S>>(from: &D, to: &E, room: usize, seat: &mut S)
     requires room { room ≤ 48 }
     requires may { D.may_write from.now seat.old × E.may_write to.now seat.old }
     requires apart { Apart D.may_write D.words E.rest from.now to.now }

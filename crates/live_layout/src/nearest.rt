@@ -1,7 +1,7 @@
 //! The nearest child from a byte on.
 
 ghost use Rattle.std.specs.Prelude.{◌≡◌, ℕ, ◌+◌, ◌/◌, ◌<◌, ◌≤◌, List, Some, None, IfSome};
-ghost use Rattle.node_table.specs.TableNode.{TableNode};
+ghost use Rattle.spec_node.specs.TableNode.{TableNode};
 ghost use Rattle.live_layout.specs.Words.{at, Stays};
 ghost use Rattle.live_layout.specs.ListCells.{count, key, first, HasList};
 ghost use Rattle.live_layout.specs.PlaceCells.{HasPlaces};
@@ -12,7 +12,7 @@ ghost use Rattle.live_layout.specs.inner.Best.{turned, IsBest, IsMarked};
 use crate::form::room_of;
 use crate::lanes::lane_of;
 use crate::list::first_child;
-use crate::words::Cells;
+use crate::words::ReadWords;
 use node_base::base_node::NodeType;
 use node_base::mask::{last_marked, next_marked};
 
@@ -39,7 +39,7 @@ fn nearer(best: Option<(u8, usize)>, least: u8, byte: u8, place: usize) -> Optio
 }
 
 // The word that has the key at this place, by the one that has the key before.
-fn keys_at<S, R: Cells<S>>(cells: &R, keys: u64, place: usize, seat: &mut S) -> u64
+fn keys_at<S, R: ReadWords<S>>(cells: &R, keys: u64, place: usize, seat: &mut S) -> u64
     requires may { R.may_read cells.now seat.old }
     requires inside { (place < 256) × (1 + (place + 1) / 8 < R.long cells.now) }
     ensures seat { Stays R.may_read R.rest cells.now seat.old seat.new }
@@ -55,7 +55,7 @@ fn keys_at<S, R: Cells<S>>(cells: &R, keys: u64, place: usize, seat: &mut S) -> 
 }
 
 // The nearest key of a list from this one on, turned, and its place.
-fn nearest_place<S, R: Cells<S>>(
+fn nearest_place<S, R: ReadWords<S>>(
     cells: &R,
     room: usize,
     up: bool,
@@ -83,7 +83,7 @@ fn nearest_place<S, R: Cells<S>>(
 }
 
 // The nearest child of a list.
-fn in_list<S, R: Cells<S>>(
+fn in_list<S, R: ReadWords<S>>(
     cells: &R,
     room: usize,
     up: bool,
@@ -114,7 +114,7 @@ fn nearest_mark(marks: &[u64; 4], up: bool, from: u8) -> Option<u8>
 }
 
 // The nearest child of a node with a place for each byte.
-fn in_places<S, R: Cells<S>>(cells: &R, up: bool, from: u8, seat: &mut S) -> Option<(u8, u64)>
+fn in_places<S, R: ReadWords<S>>(cells: &R, up: bool, from: u8, seat: &mut S) -> Option<(u8, u64)>
     requires cells { R.may_read cells.now seat.old × (R.long cells.now ≡ 262) }
     ensures seat { Stays R.may_read R.rest cells.now seat.old seat.new }
     ensures is { (c : List ℕ) (es : List (ℕ × ℕ)) → R.agrees cells.now seat.new c
@@ -132,7 +132,7 @@ fn in_places<S, R: Cells<S>>(cells: &R, up: bool, from: u8, seat: &mut S) -> Opt
 
 /// The nearest child from a byte on, upwards or downwards, of a node of this form: its byte and its word. A list is read
 /// whole, but for the other children's words.
-pub fn nearest<S, R: Cells<S>>(
+pub fn nearest<S, R: ReadWords<S>>(
     cells: &R,
     form: NodeType,
     up: bool,

@@ -1,13 +1,13 @@
 //! The pairs of a leaf, into a buffer.
 
 ghost use Rattle.std.specs.Prelude.{◌≡◌, ◌≢◌, ℕ, ◌+◌, ◌<◌, ◌≤◌, ◌^◌, true, List, take, drop, length, IfSome};
-ghost use Rattle.node_table.specs.TableNode.{TableNode};
+ghost use Rattle.spec_node.specs.TableNode.{TableNode};
 ghost use Rattle.live_layout.specs.Words.{Stays};
 ghost use Rattle.live_layout.specs.Encodes.{words_of, Encodes};
 ghost use Rattle.live_layout.specs.Page.{IsNext, AreListed, pairs_of};
 
 use crate::nearest::nearest;
-use crate::words::Cells;
+use crate::words::ReadWords;
 use node_base::base_node::NodeType;
 
 /// What a page has for a pair.
@@ -46,7 +46,7 @@ pub struct Filled {
 }
 
 // The next payload of a leaf from a byte on, up to another: its byte and itself.
-fn next_within<S, R: Cells<S>>(
+fn next_within<S, R: ReadWords<S>>(
     cells: &R,
     form: NodeType,
     from: u8,
@@ -71,7 +71,7 @@ fn next_within<S, R: Cells<S>>(
 }
 
 /// Writes a part of a leaf of this form into a buffer, from a place there on, ascending, until the buffer is full.
-pub fn fill<S, R: Cells<S>, P: RangeEntry>(
+pub fn fill<S, R: ReadWords<S>, P: RangeEntry>(
     cells: &R,
     form: NodeType,
     part: Part,

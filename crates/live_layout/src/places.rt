@@ -6,7 +6,7 @@ ghost use Rattle.spec_map.specs.Map.{lookup, put, without};
 ghost use Rattle.live_layout.specs.Words.{at, Stays};
 ghost use Rattle.live_layout.specs.PlaceCells.{HasPlaces, Keeps};
 
-use crate::words::{Cells, Draft};
+use crate::words::{ReadWords, WriteWords};
 
 /// Whether a bit is set.
 pub fn is_set(word: u64, bit: usize) -> bool
@@ -36,7 +36,7 @@ fn without_bit(word: u64, bit: usize) -> u64
 }
 
 /// The word of a key's child. It reads a word of bits, and the child's.
-pub fn find<S, R: Cells<S>>(cells: &R, byte: u8, seat: &mut S) -> Option<u64>
+pub fn find<S, R: ReadWords<S>>(cells: &R, byte: u8, seat: &mut S) -> Option<u64>
     requires cells { R.may_read cells.now seat.old × (R.long cells.now ≡ 262) }
     ensures seat { Stays R.may_read R.rest cells.now seat.old seat.new }
     ensures is { (c : List ℕ) (es : List (ℕ × ℕ)) → R.agrees cells.now seat.new c → HasPlaces c es
@@ -53,7 +53,7 @@ pub fn find<S, R: Cells<S>>(cells: &R, byte: u8, seat: &mut S) -> Option<u64>
 }
 
 /// Gives a key that has none a child. Three stores.
-pub fn put<S, D: Draft<S>>(draft: &D, byte: u8, child: u64, seat: &mut S)
+pub fn put<S, D: WriteWords<S>>(draft: &D, byte: u8, child: u64, seat: &mut S)
     requires may { D.may_write draft.now seat.old }
     requires long { length (D.words draft.now seat.old) ≡ 262 }
     requires left { at (D.words draft.now seat.old) 1 < 256 }
@@ -72,7 +72,7 @@ pub fn put<S, D: Draft<S>>(draft: &D, byte: u8, child: u64, seat: &mut S)
 }
 
 /// Gives a key that has one another child. One store.
-pub fn change<S, D: Draft<S>>(draft: &D, byte: u8, child: u64, seat: &mut S)
+pub fn change<S, D: WriteWords<S>>(draft: &D, byte: u8, child: u64, seat: &mut S)
     requires may { D.may_write draft.now seat.old }
     requires long { length (D.words draft.now seat.old) ≡ 262 }
     ensures seat { Stays D.may_write D.rest draft.now seat.old seat.new }
@@ -86,7 +86,7 @@ pub fn change<S, D: Draft<S>>(draft: &D, byte: u8, child: u64, seat: &mut S)
 }
 
 /// Takes a key's child out. Two stores.
-pub fn take<S, D: Draft<S>>(draft: &D, byte: u8, seat: &mut S)
+pub fn take<S, D: WriteWords<S>>(draft: &D, byte: u8, seat: &mut S)
     requires may { D.may_write draft.now seat.old }
     requires long { length (D.words draft.now seat.old) ≡ 262 }
     ensures seat { Stays D.may_write D.rest draft.now seat.old seat.new }
@@ -104,7 +104,7 @@ pub fn take<S, D: Draft<S>>(draft: &D, byte: u8, seat: &mut S)
 }
 
 /// No children. The head stays.
-pub fn clear<S, D: Draft<S>>(draft: &D, seat: &mut S)
+pub fn clear<S, D: WriteWords<S>>(draft: &D, seat: &mut S)
     requires may { D.may_write draft.now seat.old }
     requires long { length (D.words draft.now seat.old) ≡ 262 }
     ensures seat { Stays D.may_write D.rest draft.now seat.old seat.new }

@@ -5,7 +5,7 @@ ghost use Rattle.std.specs.Prelude.{◌≡◌, ℕ, ◌<◌, List, length, slice
 ghost use Rattle.live_layout.specs.Words.{at, Stays, Looks};
 
 /// The words of a node, which other seats may write meanwhile.
-pub trait Cells<S> {
+pub trait ReadWords<S> {
     // The seat may read them.
     ghost may_read: { Self → S → Type 0 };
 
@@ -28,7 +28,7 @@ pub trait Cells<S> {
 }
 
 /// The words of a node that no other seat writes: the seat has locked the node, or nobody else knows it yet.
-pub trait Draft<S> {
+pub trait WriteWords<S> {
     // The seat may write them.
     ghost may_write: { Self → S → Type 0 };
 
@@ -55,12 +55,12 @@ pub trait Draft<S> {
 
 /// Words that a seat writes, for who searches them. There are `long`.
 #[derive(Drop)]
-pub struct Drafted<'a, D> {
+pub struct AsReadWords<'a, D> {
     pub draft: &'a D,
     pub long: usize,
 }
 
-impl<'a, S, D: Draft<S>> Cells<S> for Drafted<'a, D> {
+impl<'a, S, D: WriteWords<S>> ReadWords<S> for AsReadWords<'a, D> {
     ghost may_read = { λ d s. D.may_write d.draft.now s
         × (length (D.words d.draft.now s) ≡ d.long) };
 

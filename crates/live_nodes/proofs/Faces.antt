@@ -57,7 +57,7 @@ module _ {V : Type 0} (root : ℕ) (P : List Node → List V → Type 0) (id : �
   puts k x = subst (λ (z : ℕ). Stores R plays.Puts id v z x) k.2 (may_put root P id v k.0 x k.1)
 
   pub makes : (told : V → ℕ → Content → ℕ → V → Type 0) (x : ℕ) → MayMake v key P id told x → Stores R (plays.Makes told) id v key x
-  makes told x k = subst (λ (z : ℕ). Stores R (plays.Makes told) id v z x) k.3 (may_make root P id v k.0 x told k.4 k.1 k.2 k.5)
+  makes told x k = subst (λ (z : ℕ). Stores R (plays.Makes told) id v z x) k.4 (may_make root P id v k.0 k.1 x told k.5 k.6 k.2 k.3 k.7)
 
   pub grows : key ≡ 0 → (old : ℕ) → Exchanges R (plays.Grows root) id v key old (old + 1)
   grows e old = subst (λ (z : ℕ). Exchanges R (plays.Grows root) id v z old (old + 1)) (sym e) (may_grow root P id v old)

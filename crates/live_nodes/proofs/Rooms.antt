@@ -6,7 +6,7 @@ use native.Mathlib.Decide.{ℕ_discrete, dec_le}
 use lib.ListN.{get_elem?, replicate}
 use Rattle.atomic_table.proofs.Lists.{at_snoc, set_here, set_else, at_longer}
 use Rattle.word_book.specs.Book.{State, Stores, Exchanges}
-use Rattle.live_nodes.specs.Nodes.{Content, at, Node, node, node_at, Owner, counts, in_node, in_room, IsNode}
+use Rattle.live_nodes.specs.Nodes.{Content, at, Node, node, node_at, Owner, counts, in_node, in_room, WordFits, IsNode}
 use Rattle.live_nodes.specs.Seats.{place, Room, room_at, no_room, SeatView, seat_view}
 use Rattle.word_segments.specs.Segments.{size, before}
 use Rattle.live_nodes.specs.Rule.{first_key, PlaceFits, Knows, RoomFits, client, IsLive}
@@ -121,11 +121,11 @@ module _ {V : Type 0} (root : ℕ) (P : List Node → List V → Type 0) where
       )
 
   -- MAKE
-  pub may_make : (id : ℕ) (v : View) (len x : ℕ) (told : V → ℕ → Content → ℕ → V → Type 0) → get_elem? v.room.draft 0 ≡ some 0 → 1 ≤ len → len < length v.room.draft
-      → acts.Makes P id v.client v.room.start (new_content v.room.draft len x) (told v.client v.room.start (new_content v.room.draft len x)) → Stores R (plays.Makes told) id v (v.room.start + len) x
-  may_make id v len x told head some_len low makes s n r seat there =
+  pub may_make : (id : ℕ) (v : View) (len word x : ℕ) (told : V → ℕ → Content → ℕ → V → Type 0) → get_elem? v.room.draft 0 ≡ some word → WordFits None word → 1 ≤ len → len < length v.room.draft
+      → acts.Makes P id v.client v.room.start word (new_content v.room.draft len x) (told v.client v.room.start (new_content v.room.draft len x)) → Stores R (plays.Makes told) id v (v.room.start + len) x
+  may_make id v len word x told head fits some_len low makes s n r seat there =
       let p : ℕ = v.room.start in let key : ℕ = p + len in let draft : Content = set v.room.draft len x in let content : Content = new_content v.room.draft len x in let ws : List ℕ = set s.words key x in
-      let k : ℕ = length r.nodes in let b : Node = node_at p 0 content None in let f = r.each_seat id v seat in let room = r.each_room id v seat in let last_is = some_at v.room.draft len low in
+      let k : ℕ = length r.nodes in let b : Node = node_at p word content None in let f = r.each_seat id v seat in let room = r.each_room id v seat in let last_is = some_at v.room.draft len low in
       let owner : ℕ → Owner = owned r.owner p (p + len) (in_node k) in
       -- the room's words were the seat's
       let mine : (y : ℕ) → p ≤ y → y ≤ p + len → r.owner y ≡ in_room id = λ y from to. let i : ℕ = y - p in let at_i = some_at v.room.draft i (omega (arith, low, to)) in
@@ -138,12 +138,12 @@ module _ {V : Type 0} (root : ℕ) (P : List Node → List V → Type 0) where
       let many : length content ≡ len = taken_length len (drop 1 draft) (omega (arith, body, longest, low)) in
       let is_new : IsNode owner k b content ws = record {
         drafted = refl;
-        version = set_else s.words key p x (λ e. absurd (omega (arith, e, some_len))) ∙ (ap (get_elem? s.words) (let e : p ≡ p + 0 = omega arith in e) ∙ (room 0 0 head).0);
+        version = set_else s.words key p x (λ e. absurd (omega (arith, e, some_len))) ∙ (ap (get_elem? s.words) (let e : p ≡ p + 0 = omega arith in e) ∙ (room 0 word head).0);
         version_is = inside r.owner p (p + len) (in_node k) p (omega arith) (omega arith);
         cells = λ i h. let h' : i < len = omega (arith, h, many) in let is = some_at draft (1 + i) (omega (arith, h', longest, low)) in
             ap (get_elem? ws) (let e : p + i + 1 ≡ p + (1 + i) = omega arith in e) ∙ ((written (1 + i) is.0 is.1).0 ∙ ap some (sym (taken_at len (drop 1 draft) i is.0 h' (dropped 1 draft i ∙ is.1))));
         cells_are = λ i h. inside r.owner p (p + len) (in_node k) (p + i + 1) (omega arith) (omega (arith, h, many));
-        bits = (0, inl refl);
+        bits = fits;
       } in
       let elsewhere : (j : ℕ) → j < k → (node r.nodes j).place ≢ p = λ j h e. no_room_node id j (sym (mine p (omega arith) (omega arith)) ∙ (ap r.owner (sym e) ∙ (r.each_node j h).version_is)) in
       let g = makes r.nodes (map client s.views) r.agreed (client_at root P s id v seat) elsewhere in let w : View = made v g.0 k len in

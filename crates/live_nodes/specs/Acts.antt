@@ -34,10 +34,10 @@ module _ {V : Type 0} (P : List Node → List V → Type 0) (id : ℕ) (v : V) w
   Frees k word draft told = Whatever (λ ns vs. k < length ns → (node ns k).holder ≡ Some id → (node ns k).word < word
       → Goes (slice_set ns k (node_at (node ns k).place word draft None)) vs told)
 
-  -- A new node joins, where no other lies. It is free, and nobody but the client knows of it.
-  abbrev pub Makes : ℕ → Content → (ℕ → V → Type 0) → Type 0
-  Makes p content told = Whatever (λ ns vs. ((k : ℕ) → k < length ns → (node ns k).place ≢ p)
-      → Goes (ns ++ node_at p 0 content None ∷ []) vs (told (length ns)))
+  -- A new node joins by this word, where no other lies. It is free, or obsolete, and nobody but the client knows of it.
+  abbrev pub Makes : ℕ → ℕ → Content → (ℕ → V → Type 0) → Type 0
+  Makes p word content told = Whatever (λ ns vs. ((k : ℕ) → k < length ns → (node ns k).place ≢ p)
+      → Goes (ns ++ node_at p word content None ∷ []) vs (told (length ns)))
 
 -- A new seat may come.
 abbrev pub Admits : {V : Type 0} → (List Node → List V → Type 0) → V → Type 0

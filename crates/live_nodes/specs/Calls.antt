@@ -1,8 +1,8 @@
 -- What a call asks of its seat, by the seat's view and the key of the word that it is given.
-use Rattle.std.specs.Prelude.{◌≡◌, ℕ, ◌+◌, ◌<◌, ◌≤◌, List, length, Some}
+use Rattle.std.specs.Prelude.{◌≡◌, ℕ, ◌+◌, ◌<◌, ◌≤◌, List, length, Some, None}
 use mathlib.Core.Option.{some}
 use lib.ListN.{get_elem?}
-use Rattle.live_nodes.specs.Nodes.{Content, Node}
+use Rattle.live_nodes.specs.Nodes.{Content, Node, WordFits}
 use Rattle.live_nodes.specs.Seats.{Place, Read, Hold, SeatView, IsIn}
 use Rattle.live_nodes.specs.Acts as acts
 use Rattle.live_nodes.specs.Plays.{read_of, hold_of, new_content}
@@ -44,7 +44,8 @@ module _ {V : Type 0} (v : SeatView V) (key : ℕ) where
     MayFree told word new = (p : Place) × (h : Hold) × IsPlace p × (hold_of p.number v.holds ≡ Some h) × (h.word ≡ word)
         × acts.Frees P id v.client p.number new h.draft (told v.client p.number h.draft)
 
-    -- The word is the last of a new node, whose first one is the first of the room, and 0.
+    -- The word is the last of a new node, whose first one is the first of the room, and says that it is free or obsolete.
     abbrev pub MayMake : (V → ℕ → Content → ℕ → V → Type 0) → ℕ → Type 0
-    MayMake told x = (len : ℕ) × (1 ≤ len) × (len < length v.room.draft) × (v.room.start + len ≡ key) × (get_elem? v.room.draft 0 ≡ some 0)
-        × (let content = new_content v.room.draft len x in acts.Makes P id v.client v.room.start content (told v.client v.room.start content))
+    MayMake told x = (len : ℕ) × (word : ℕ) × (1 ≤ len) × (len < length v.room.draft) × (v.room.start + len ≡ key)
+        × (get_elem? v.room.draft 0 ≡ some word) × WordFits None word
+        × (let content = new_content v.room.draft len x in acts.Makes P id v.client v.room.start word content (told v.client v.room.start content))

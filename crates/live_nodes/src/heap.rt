@@ -26,7 +26,7 @@ pub struct Grown {
 /// The words of all nodes. `door` lets threads enter. `limit` is of the bytes of all segments, and `most` of their number.
 #[derive(Drop)]
 pub struct Heap<V, L: NodeLaw<V>> {
-    trunk: Vec<Word<V, L>>,
+    root_word: Vec<Word<V, L>>,
     segments: Segments<View<V, L>, Law<L>>,
     door: Seat<V, L>,
     limit: u64,
@@ -40,7 +40,7 @@ impl<V, L: NodeLaw<V>> Model for Heap<V, L> {
 
     ghost view = { λ h. h.door.book };
 
-    ghost invariant = { λ h. (length h.trunk.items ≡ L.root + 2) × AreWords 0 h.door.book h.trunk.items
+    ghost invariant = { λ h. (length h.root_word.items ≡ L.root + 2) × AreWords 0 h.door.book h.root_word.items
         × (h.segments ≡ record { base = L.root + 2; most = h.most; book = h.door.book })
         × (8 * before h.most ≤ h.limit) × (h.door.book.limit ≡ h.limit) };
 }
@@ -62,11 +62,11 @@ impl<V, L: NodeLaw<V>> Heap<V, L> {
         ensures limit { IfOk result (λ heap. heap.limit ≡ limit) }
     {
         let (door, pens) = room::open::<V, L>(root, limit);
-        let trunk = filled(Vec::with_capacity(alloc, root + 2)?, root + 2, pens);
+        let root_word = filled(Vec::with_capacity(alloc, root + 2)?, root + 2, pens);
         let most = fitting(limit);
-        let segments = Segments::new(alloc, root as u64 + 2, most, &trunk[0])?;
+        let segments = Segments::new(alloc, root as u64 + 2, most, &root_word[0])?;
         Ok(Heap {
-            trunk,
+            root_word,
             segments,
             door,
             limit,
@@ -89,7 +89,7 @@ impl<V, L: NodeLaw<V>> Heap<V, L> {
         ensures within { result.0 ≤ result.1 }
         ensures limit { result.1 ≡ self.now.limit }
     {
-        let number = self.trunk[0].load::<Idle>(seat);
+        let number = self.root_word[0].load::<Idle>(seat);
         let counted = number.min(self.most).min((1 << 44) - 1);
         (8 * before_of(counted), self.limit)
     }
@@ -109,9 +109,9 @@ impl<V, L: NodeLaw<V>> Heap<V, L> {
         ensures word { IfSome result (λ word. word.now ≡ name key self.now) }
         ensures none { IfNone result (L.root + 2 ≤ key) }
     {
-        let first = self.trunk.len() as u64;
+        let first = self.root_word.len() as u64;
         if key < first {
-            return Some(&self.trunk[key as usize]);
+            return Some(&self.root_word[key as usize]);
         }
         self.segments.get(key)
     }
@@ -123,15 +123,15 @@ impl<V, L: NodeLaw<V>> Heap<V, L> {
         ensures { IfSome result (λ words. (length words.now ≡ count)
             × AreWords key self.now words.now) }
     {
-        let first = self.trunk.len() as u64;
+        let first = self.root_word.len() as u64;
         if key >= first {
             return self.segments.span(key, count);
         }
         let at = key as usize;
-        if count > self.trunk.len() - at {
+        if count > self.root_word.len() - at {
             return None;
         }
-        Some(&self.trunk[at..at + count])
+        Some(&self.root_word[at..at + count])
     }
 
     /// One more segment, whose words are the seat's room from then on. `None` where another thread is just making one. An
@@ -164,8 +164,8 @@ impl<V, L: NodeLaw<V>> Heap<V, L> {
         ensures lost { IfOk result (λ grown. IfNone grown (seat.new.view ≡ seat.old.view)) }
         ensures refused { OnErr result (seat.new.view ≡ seat.old.view) }
     {
-        let first = self.trunk.len() as u64;
-        let count = &self.trunk[0];
+        let first = self.root_word.len() as u64;
+        let count = &self.root_word[0];
         let number = count.load::<Idle>(seat);
         if number >= most || number >= self.most || number >= 1 << 44 || first >= 1 << 33 {
             return Err(AllocError);

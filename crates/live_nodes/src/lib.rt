@@ -13,9 +13,9 @@
 //!
 //! The searches and changes of `live_layout` reach a node's words by the types in `rows`.
 //!
-//! - `Row`: a node is read without a lock. Its version word was taken before, and is checked afterwards
-//! - `Held`: the seat has locked the node
-//! - `Fresh`: the first words of the seat's room become a node
+//! - `SharedWords`: a node is read without a lock. Its version word was taken before, and is checked afterwards
+//! - `LockedWords`: the seat has locked the node
+//! - `NewWords`: the first words of the seat's room become a node
 //!
 //! Tested in `test_live_words`.
 #![tactic(auto)]

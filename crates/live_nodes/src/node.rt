@@ -7,7 +7,7 @@ ghost use Rattle.live_nodes.specs.Plays.{Takes, Sees, Looks, Checks, Locks, Writ
 ghost use Rattle.live_nodes.specs.Calls.{KnowsPlace, KnowsCell, HoldsCell, MayCheck, MayLock, MayFree};
 
 use crate::law::{NodeLaw, Seat, Word};
-use crate::plays::{Change, Check, Free, Lesson, Lock, Look, See, Take, Write};
+use crate::plays::{Check, Free, Lock, Look, OnCheck, OnLock, See, Take, Write};
 
 /// Takes the version word of a node.
 pub fn take<V, L: NodeLaw<V>>(word: &Word<V, L>, seat: &mut Seat<V, L>) -> u64
@@ -40,7 +40,7 @@ pub fn look<V, L: NodeLaw<V>>(word: &Word<V, L>, seat: &mut Seat<V, L>) -> u64
 }
 
 /// Whether a version word is still the one that was taken. Then all that was read of the node since is current.
-pub fn check<V, L: NodeLaw<V>, M: Lesson<V>>(
+pub fn check<V, L: NodeLaw<V>, M: OnCheck<V>>(
     word: &Word<V, L>,
     taken: u64,
     seat: &mut Seat<V, L>,
@@ -56,7 +56,7 @@ pub fn check<V, L: NodeLaw<V>, M: Lesson<V>>(
 }
 
 /// Locks a node that is free by this version word. `false` where its word is another.
-pub fn lock<V, L: NodeLaw<V>, M: Change<V>>(
+pub fn lock<V, L: NodeLaw<V>, M: OnLock<V>>(
     word: &Word<V, L>,
     free: u64,
     seat: &mut Seat<V, L>,
@@ -83,7 +83,7 @@ pub fn write<V, L: NodeLaw<V>>(word: &Word<V, L>, new: u64, seat: &mut Seat<V, L
 }
 
 /// Unlocks a node that was free by this version word. What was written is its content.
-pub fn unlock<V, L: NodeLaw<V>, M: Change<V>>(word: &Word<V, L>, free: u64, seat: &mut Seat<V, L>)
+pub fn unlock<V, L: NodeLaw<V>, M: OnLock<V>>(word: &Word<V, L>, free: u64, seat: &mut Seat<V, L>)
     requires book { seat.old.book ≡ word.now.book }
     requires free { (free % 4 ≡ 0) × (free < 2 ^ 63) }
     requires frees { MayFree seat.old.view word.now.key L.holds seat.old.id M.told (free + 2) (free + 4) }
@@ -94,7 +94,7 @@ pub fn unlock<V, L: NodeLaw<V>, M: Change<V>>(word: &Word<V, L>, free: u64, seat
 }
 
 /// Makes a held node obsolete. It is so until it is reclaimed.
-pub fn retire<V, L: NodeLaw<V>, M: Change<V>>(word: &Word<V, L>, free: u64, seat: &mut Seat<V, L>)
+pub fn retire<V, L: NodeLaw<V>, M: OnLock<V>>(word: &Word<V, L>, free: u64, seat: &mut Seat<V, L>)
     requires book { seat.old.book ≡ word.now.book }
     requires free { (free % 4 ≡ 0) × (free < 2 ^ 63) }
     requires frees { MayFree seat.old.view word.now.key L.holds seat.old.id M.told (free + 2) (free + 3) }
@@ -106,7 +106,7 @@ pub fn retire<V, L: NodeLaw<V>, M: Change<V>>(word: &Word<V, L>, free: u64, seat
 
 /// Locks a node again that is obsolete by this version word. `false` where its word is another. It is free again only once
 /// its holder unlocks it, by the version after that one.
-pub fn reclaim<V, L: NodeLaw<V>, M: Change<V>>(
+pub fn reclaim<V, L: NodeLaw<V>, M: OnLock<V>>(
     word: &Word<V, L>,
     obsolete: u64,
     seat: &mut Seat<V, L>,

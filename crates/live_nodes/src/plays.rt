@@ -8,7 +8,7 @@ use word_book::word::Play;
 
 /// What a caller learns at a check: of its view before, the node, its word, what was read of it, where other nodes lie, and
 /// its view after.
-pub trait Lesson<V> {
+pub trait OnCheck<V> {
     ghost use Rattle.std.specs.Prelude.{ℕ, List};
     ghost use Rattle.live_nodes.specs.Seats.{Place};
 
@@ -16,7 +16,7 @@ pub trait Lesson<V> {
 }
 
 /// What a caller learns as it locks a node or frees it: of its view before, the node, its content, and its view after.
-pub trait Change<V> {
+pub trait OnLock<V> {
     ghost use Rattle.std.specs.Prelude.{ℕ};
     ghost use Rattle.live_nodes.specs.Nodes.{Content};
 
@@ -25,7 +25,7 @@ pub trait Change<V> {
 
 /// What a caller learns as it makes a node: of its view before, the node's place, its content, its number, and its view
 /// after.
-pub trait Birth<V> {
+pub trait OnMake<V> {
     ghost use Rattle.std.specs.Prelude.{ℕ};
     ghost use Rattle.live_nodes.specs.Nodes.{Content};
 
@@ -33,7 +33,7 @@ pub trait Birth<V> {
 }
 
 /// What two callers learn as they meet: of the views of both before, and of both after.
-pub trait Encounter<V> {
+pub trait OnMeet<V> {
     ghost told: { V → V → V → V → Type 0 };
 }
 
@@ -65,7 +65,7 @@ pub struct Check<M> {
     of: PhantomData<M>,
 }
 
-impl<V, L: NodeLaw<V>, M: Lesson<V>> Play<View<V, L>> for Check<M> {
+impl<V, L: NodeLaw<V>, M: OnCheck<V>> Play<View<V, L>> for Check<M> {
     ghost then = { Checks M.told };
 }
 
@@ -73,7 +73,7 @@ pub struct Lock<M> {
     of: PhantomData<M>,
 }
 
-impl<V, L: NodeLaw<V>, M: Change<V>> Play<View<V, L>> for Lock<M> {
+impl<V, L: NodeLaw<V>, M: OnLock<V>> Play<View<V, L>> for Lock<M> {
     ghost then = { Locks M.told };
 }
 
@@ -87,7 +87,7 @@ pub struct Free<M> {
     of: PhantomData<M>,
 }
 
-impl<V, L: NodeLaw<V>, M: Change<V>> Play<View<V, L>> for Free<M> {
+impl<V, L: NodeLaw<V>, M: OnLock<V>> Play<View<V, L>> for Free<M> {
     ghost then = { Frees M.told };
 }
 
@@ -101,7 +101,7 @@ pub struct Make<M> {
     of: PhantomData<M>,
 }
 
-impl<V, L: NodeLaw<V>, M: Birth<V>> Play<View<V, L>> for Make<M> {
+impl<V, L: NodeLaw<V>, M: OnMake<V>> Play<View<V, L>> for Make<M> {
     ghost then = { Makes M.told };
 }
 
@@ -115,6 +115,6 @@ pub struct Meet<M> {
     of: PhantomData<M>,
 }
 
-impl<V, L: NodeLaw<V>, M: Encounter<V>> Meeting<View<V, L>> for Meet<M> {
+impl<V, L: NodeLaw<V>, M: OnMeet<V>> Meeting<View<V, L>> for Meet<M> {
     ghost then = { Meets M.told };
 }

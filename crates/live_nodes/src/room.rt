@@ -9,7 +9,7 @@ ghost use Rattle.live_nodes.specs.Plays.{Puts, Makes, Grows, Meets};
 ghost use Rattle.live_nodes.specs.Calls.{InRoom, MayMake};
 
 use crate::law::{NodeLaw, Seat, Word};
-use crate::plays::{Birth, Encounter, Grow, Make, Meet, Put};
+use crate::plays::{Grow, Make, Meet, OnMake, OnMeet, Put};
 use word_book::seat::Pens;
 
 /// A new book with this limit: the count of segments, which is 0, and the root, whose content is all 0.
@@ -33,7 +33,7 @@ pub fn enter<V, L: NodeLaw<V>>(seat: &Seat<V, L>) -> Seat<V, L>
 }
 
 /// Two seats of one book meet, and learn of each other.
-pub fn meet<V, L: NodeLaw<V>, M: Encounter<V>>(a: &mut Seat<V, L>, b: &mut Seat<V, L>)
+pub fn meet<V, L: NodeLaw<V>, M: OnMeet<V>>(a: &mut Seat<V, L>, b: &mut Seat<V, L>)
     requires book { a.old.book ≡ b.old.book }
     requires meets { acts.Meets L.holds a.old.id a.old.view.client b.old.id b.old.view.client
         (M.told a.old.view.client b.old.view.client) }
@@ -69,8 +69,8 @@ pub fn put<V, L: NodeLaw<V>>(word: &Word<V, L>, new: u64, seat: &mut Seat<V, L>)
     word.store::<Put>(new, seat)
 }
 
-/// Writes the last number of a new node, which is free from now on.
-pub fn make<V, L: NodeLaw<V>, M: Birth<V>>(word: &Word<V, L>, last: u64, seat: &mut Seat<V, L>)
+/// Writes the last number of a new node. By its first word it is free from now on, or obsolete.
+pub fn make<V, L: NodeLaw<V>, M: OnMake<V>>(word: &Word<V, L>, last: u64, seat: &mut Seat<V, L>)
     requires book { seat.old.book ≡ word.now.book }
     requires makes { MayMake seat.old.view word.now.key L.holds seat.old.id M.told last }
     ensures seat { (seat.new.book ≡ seat.old.book) × (seat.new.id ≡ seat.old.id) }

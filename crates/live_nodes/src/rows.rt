@@ -6,15 +6,15 @@ ghost use Rattle.live_nodes.specs.Rows.{last_saw, draft_of, nth, filled, MayRead
 
 use crate::law::{NodeLaw, Seat, Word};
 use crate::{node, room};
-use live_layout::words::{Cells, Draft};
+use live_layout::words::{ReadWords, WriteWords};
 
 /// The words of a node, whose version word the seat took last. The version word is the first.
 #[derive(Drop)]
-pub struct Row<'a, V, L: NodeLaw<V>> {
+pub struct SharedWords<'a, V, L: NodeLaw<V>> {
     pub words: &'a [Word<V, L>],
 }
 
-impl<'a, V, L: NodeLaw<V>> Cells<Seat<V, L>> for Row<'a, V, L> {
+impl<'a, V, L: NodeLaw<V>> ReadWords<Seat<V, L>> for SharedWords<'a, V, L> {
     ghost may_read = { λ r s. MayRead r.words.now s.book s.view };
 
     ghost long = { λ r. length r.words.now - 1 };
@@ -30,11 +30,11 @@ impl<'a, V, L: NodeLaw<V>> Cells<Seat<V, L>> for Row<'a, V, L> {
 
 /// The words of the node that the seat locked last, or `N` before that.
 #[derive(Drop)]
-pub struct Held<'a, V, L: NodeLaw<V>, const N: usize> {
+pub struct LockedWords<'a, V, L: NodeLaw<V>, const N: usize> {
     pub words: &'a [Word<V, L>],
 }
 
-impl<'a, V, L: NodeLaw<V>, const N: usize> Draft<Seat<V, L>> for Held<'a, V, L, N> {
+impl<'a, V, L: NodeLaw<V>, const N: usize> WriteWords<Seat<V, L>> for LockedWords<'a, V, L, N> {
     ghost may_write = { λ r s. MayHold N r.words.now s.book s.view };
 
     ghost words = { λ r s. draft_of (nth N s.view.holds) };
@@ -52,11 +52,11 @@ impl<'a, V, L: NodeLaw<V>, const N: usize> Draft<Seat<V, L>> for Held<'a, V, L, 
 
 /// The first words of the seat's room, which become a node.
 #[derive(Drop)]
-pub struct Fresh<'a, V, L: NodeLaw<V>> {
+pub struct NewWords<'a, V, L: NodeLaw<V>> {
     pub words: &'a [Word<V, L>],
 }
 
-impl<'a, V, L: NodeLaw<V>> Draft<Seat<V, L>> for Fresh<'a, V, L> {
+impl<'a, V, L: NodeLaw<V>> WriteWords<Seat<V, L>> for NewWords<'a, V, L> {
     ghost may_write = { λ r s. MayFill r.words.now s.book s.view };
 
     ghost words = { λ r s. filled (length r.words.now) s.view.room };

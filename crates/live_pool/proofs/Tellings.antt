@@ -4,7 +4,7 @@ use Rattle.live_nodes.specs.Seats.{place, SeatView, IsIn, Each}
 use Rattle.live_nodes.proofs.Frames.{each_map}
 use Rattle.live_law.specs.Levels.{place_at}
 use Rattle.live_law.specs.Views.{View}
-use Rattle.live_reads.specs.Ways.{Sights, Keeps}
+use Rattle.live_reads.specs.Paths.{Sights, Keeps}
 use Rattle.live_growth.specs.Calls.{IsReady}
 use Rattle.live_growth.specs.declared.link.Room.{Room}
 use Rattle.live_pool.specs.Successions.{with_room, informed}
@@ -59,7 +59,7 @@ ready_after v w a b t m n r s ea eb et =
       named = k.named;
     } in
     subst (λ (z : Seen). IsReady z m) (sym (et ∙ (λ i. with_room (eb i) (ea i).room))) record {
-      trunk = in_first (place 0 1 1) v.places w.places r.trunk;
+      root_word = in_first (place 0 1 1) v.places w.places r.root_word;
       own = s.own;
       holds = s.holds;
       words = record { count = r.words.count; enough = r.words.enough; is = r.words.is };

@@ -1,3 +1,3 @@
 pub mod Successions
 pub mod Pools
-pub mod Stocks
+pub mod FreeLists

@@ -10,9 +10,9 @@
 #![tactic(auto)]
 
 pub mod calls;
-mod deferred;
+mod cleanup_queue;
+pub mod free_list;
 pub mod pool;
 mod slot;
-pub mod stock;
 pub mod succession;
 pub mod upkeep;

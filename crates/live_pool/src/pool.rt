@@ -5,13 +5,13 @@
 ghost use Rattle.std.specs.Prelude.{◌≡◌, ◌-◌, ◌^◌, [], IfOk, IfSome};
 ghost use Rattle.live_pool.specs.Pools.{AreOf, AreFor};
 
-use crate::deferred::Deferred;
+use crate::cleanup_queue::CleanupQueue;
+use crate::free_list::FreeList;
 use crate::slot::swap;
-use crate::stock::Stock;
 use crate::succession::succeed;
 use counted_slot::{Counted, FREE, Fits, MARKED, PRESENT};
+use live_growth::free_nodes::FreeNodes;
 use live_growth::map::{Congee, Guard};
-use live_growth::spare::Spares;
 use node_base::base_node::NodeType;
 use std::alloc::{AllocError, Global};
 use std::hint::spin_loop;
@@ -28,7 +28,8 @@ pub(crate) const FORMS: [NodeType; 4] = [
     NodeType::N256,
 ];
 
-/// How many stocks each form has, and how many queues of deferred keys there are. Where a thread stops at one, others use the next.
+/// How many free lists each form has, and how many queues of deferred keys there are. Where a thread stops at one, others use the
+/// next.
 pub(crate) const STRIPES: usize = 4;
 
 /// How often a list is looked for, where each is taken.
@@ -54,8 +55,8 @@ pub struct Pool {
     /// The map.
     pub map: Congee,
     slots: Vec<Counted<Left>>,
-    pub(crate) stocks: Vec<Counted<Stock>>,
-    pub(crate) deferred: Vec<Counted<Deferred>>,
+    pub(crate) free_lists: Vec<Counted<FreeList>>,
+    pub(crate) cleanup_queues: Vec<Counted<CleanupQueue>>,
     pub(crate) alloc: Global,
 }
 
@@ -69,7 +70,7 @@ impl Model for Pool {
 
     ghost view = { λ p. p.map };
 
-    ghost invariant = { λ p. AreFor p.map p.slots.items × AreFor p.map p.stocks.items };
+    ghost invariant = { λ p. AreFor p.map p.slots.items × AreFor p.map p.free_lists.items };
 }
 
 // So many slots for guards of this map, each with an empty list.
@@ -84,24 +85,24 @@ fn free_slots(alloc: Global, map: &Congee) -> Result<Vec<Counted<Left>>, AllocEr
     Ok(slots)
 }
 
-// The stocks of each form, without nodes: a stripe of one for each form after another.
-fn no_stocks(alloc: Global, map: &Congee) -> Result<Vec<Counted<Stock>>, AllocError>
-    ensures { IfOk result (λ stocks. AreFor map.now stocks.items) }
+// The free lists of each form, without nodes: a stripe of one for each form after another.
+fn no_free_lists(alloc: Global, map: &Congee) -> Result<Vec<Counted<FreeList>>, AllocError>
+    ensures { IfOk result (λ free_lists. AreFor map.now free_lists.items) }
 {
-    let mut stocks = Vec::with_capacity(alloc, FORMS.len() * STRIPES)?;
+    let mut free_lists = Vec::with_capacity(alloc, FORMS.len() * STRIPES)?;
     for _ in 0..FORMS.len() * STRIPES {
-        stocks.push(Counted::new(Stock::none(map, alloc), map))?;
+        free_lists.push(Counted::new(FreeList::none(map, alloc), map))?;
     }
-    Ok(stocks)
+    Ok(free_lists)
 }
 
 // The queues, without keys.
-fn no_keys(alloc: Global, map: &Congee) -> Result<Vec<Counted<Deferred>>, AllocError> {
-    let mut deferred = Vec::with_capacity(alloc, STRIPES)?;
+fn no_keys(alloc: Global, map: &Congee) -> Result<Vec<Counted<CleanupQueue>>, AllocError> {
+    let mut cleanup_queues = Vec::with_capacity(alloc, STRIPES)?;
     for _ in 0..STRIPES {
-        deferred.push(Counted::new(Deferred::none(alloc), map))?;
+        cleanup_queues.push(Counted::new(CleanupQueue::none(alloc), map))?;
     }
-    Ok(deferred)
+    Ok(cleanup_queues)
 }
 
 impl Pool {
@@ -112,20 +113,20 @@ impl Pool {
         Pool::with_limit(alloc, u64::MAX)
     }
 
-    /// An empty map. It has a root of 2,104 bytes, the slots, the stocks and the queues. Its segments may take so many bytes together, as
-    /// in `Congee::with_limit`.
+    /// An empty map. It has a root of 2,104 bytes, the slots, the free lists and the queues. Its segments may take so many bytes
+    /// together, as in `Congee::with_limit`.
     pub fn with_limit(alloc: Global, limit: u64) -> Result<Pool, AllocError>
         ensures limit { IfOk result (λ pool. pool.limit ≡ limit) }
     {
         let map = Congee::with_limit(alloc, limit)?;
         let slots = free_slots(alloc, &map)?;
-        let stocks = no_stocks(alloc, &map)?;
-        let deferred = no_keys(alloc, &map)?;
+        let free_lists = no_free_lists(alloc, &map)?;
+        let cleanup_queues = no_keys(alloc, &map)?;
         Ok(Pool {
             map,
             slots,
-            stocks,
-            deferred,
+            free_lists,
+            cleanup_queues,
             alloc,
         })
     }
@@ -147,7 +148,7 @@ impl Pool {
     {
         let mut guard = guard;
         self.defer(&mut guard);
-        if guard.room.left == 0 && guard.room.spare == Spares::none() {
+        if guard.room.left == 0 && guard.room.spare == FreeNodes::none() {
             return;
         }
         if let Some((at, mut left)) = self.take() {

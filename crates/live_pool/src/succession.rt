@@ -3,9 +3,9 @@ ghost use Rattle.std.specs.Prelude.{◌≡◌};
 ghost use Rattle.live_pool.specs.Successions.{Succeeds, Informs};
 
 use live_growth::map::Guard;
-use live_law::law::{Levels, Mine};
-use live_nodes::law::{NodeLaw, Seat, View};
-use live_reads::way::Pass;
+use live_law::law::{MapLaw, MapView};
+use live_nodes::law::{NodeLaw, View};
+use live_reads::path::Seat;
 use word_book::seat::Meeting;
 
 /// A seat takes another's room over.
@@ -18,7 +18,10 @@ impl<V, L: NodeLaw<V>> Meeting<View<V, L>> for Succession {
 }
 
 /// The first seat's room is the second's from then on, whose own is lost. It touches no word.
-pub fn hand_over<V, L: NodeLaw<V>>(from: &mut Seat<V, L>, to: &mut Seat<V, L>)
+pub fn hand_over<V, L: NodeLaw<V>>(
+    from: &mut live_nodes::law::Seat<V, L>,
+    to: &mut live_nodes::law::Seat<V, L>,
+)
     requires book { from.old.book ≡ to.old.book }
     ensures first { (from.new.book ≡ from.old.book) × (from.new.id ≡ from.old.id) }
     ensures second { (to.new.book ≡ to.old.book) × (to.new.id ≡ to.old.id) }
@@ -30,14 +33,14 @@ pub fn hand_over<V, L: NodeLaw<V>>(from: &mut Seat<V, L>, to: &mut Seat<V, L>)
 /// Two seats tell each other where nodes are.
 pub struct Information;
 
-impl Meeting<View<Mine, Levels>> for Information {
+impl Meeting<View<MapView, MapLaw>> for Information {
     ghost use Rattle.live_pool.specs.Successions.{Informs};
 
     ghost then = { Informs };
 }
 
 /// Both seats know where the nodes are that either has met. It touches no word.
-pub fn inform(a: &mut Pass, b: &mut Pass)
+pub fn inform(a: &mut Seat, b: &mut Seat)
     requires book { a.old.book ≡ b.old.book }
     ensures first { (a.new.book ≡ a.old.book) × (a.new.id ≡ a.old.id) }
     ensures second { (b.new.book ≡ b.old.book) × (b.new.id ≡ b.old.id) }
@@ -51,9 +54,9 @@ pub fn succeed(from: Guard, to: &mut Guard)
     requires book { from.book ≡ to.old.book }
     ensures { to.new ≡ to.old }
 {
-    let Guard { mut pass, room } = from;
-    inform(&mut pass, &mut to.pass);
-    hand_over(&mut pass, &mut to.pass);
+    let Guard { mut seat, room } = from;
+    inform(&mut seat, &mut to.seat);
+    hand_over(&mut seat, &mut to.seat);
     to.room = room;
-    drop(pass);
+    drop(seat);
 }

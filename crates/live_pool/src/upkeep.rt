@@ -2,9 +2,9 @@
 ghost use Rattle.std.specs.Prelude.{◌≡◌, IfSome};
 ghost use Rattle.live_updates.specs.Refusals.{Refused};
 
-use crate::deferred;
+use crate::cleanup_queue;
+use crate::free_list::{FreeList, add_to, take_from};
 use crate::pool::{FORMS, Pool, STRIPES};
-use crate::stock::{Stock, add_to, take_from};
 use counted_slot::{Counted, MARKED};
 use live_detach::tidy::tidy;
 use live_growth::link::Room;
@@ -23,10 +23,10 @@ const LARGEST: u64 = 263;
 /// How many paths of earlier calls a call tidies at most.
 const EARLIER: usize = 2;
 
-/// How often a stock is looked for, where other threads are at some.
+/// How often a free list is looked for, where other threads are at some.
 const LOOKS: u32 = 30;
 
-// The stripe whose stock a node goes to first: its name, mixed.
+// The stripe whose free list a node goes to first: its name, mixed.
 fn stripe_of(name: u64) -> usize {
     (name.wrapping_mul(0x9e37_79b9_7f4a_7c15) >> 62) as usize
 }
@@ -35,7 +35,7 @@ fn stripe_of(name: u64) -> usize {
 fn owe(guard: &mut Guard, key: Option<u64>)
     ensures { guard.new ≡ guard.old }
 {
-    guard.room.owed = key;
+    guard.room.cleanup_due = key;
 }
 
 impl Pool {
@@ -47,7 +47,7 @@ impl Pool {
         guard.room
     }
 
-    /// To be called before a call that may insert: a guard with few words left gets nodes of the stocks, and one too many goes
+    /// To be called before a call that may insert: a guard with few words left gets nodes of the free lists, and one too many goes
     /// there. What it has then.
     pub fn ready(&self, guard: &mut Guard) -> Room
         requires map { guard.old.book ≡ self.now }
@@ -63,12 +63,12 @@ impl Pool {
 
     /// To be called after a call that may insert or remove, with what the guard had before it. The path that the guard has still to
     /// tidy is tried. If it made nodes or took some out, so are up to two that others have deferred. Then one node too many goes to
-    /// a stock of its form, and of those forms that the guard has none of it gets one.
+    /// a free list of its form, and of those forms that the guard has none of it gets one.
     pub fn settle(&self, guard: &mut Guard, before: Room)
         requires map { guard.old.book ≡ self.now }
         ensures { guard.new ≡ guard.old }
     {
-        if let Some(key) = guard.room.owed {
+        if let Some(key) = guard.room.cleanup_due {
             let _ = self.tidy_path(guard, key);
         }
         if guard.room == before {
@@ -101,13 +101,13 @@ impl Pool {
         requires map { guard.old.book ≡ self.now }
         ensures { guard.new ≡ guard.old }
     {
-        if guard.room.owed != Some(key) {
+        if guard.room.cleanup_due != Some(key) {
             self.defer(guard);
         }
         for _ in 0..HEIGHTS {
             self.leave(guard);
             self.tidy_on(guard, key);
-            if guard.room.owed.is_none() {
+            if guard.room.cleanup_due.is_none() {
                 return true;
             }
             if guard.room.spare.more == 0 {
@@ -123,18 +123,18 @@ impl Pool {
         ensures { guard.new ≡ guard.old }
     {
         owe(guard, None);
-        tidy(&self.map.nodes, key, &mut guard.room, &mut guard.pass);
+        tidy(&self.map.nodes, key, &mut guard.room, &mut guard.seat);
     }
 
     // The guard's key goes to the first queue that no other thread is at. Else the guard keeps it.
     pub(crate) fn defer(&self, guard: &mut Guard)
         ensures { guard.new ≡ guard.old }
     {
-        let Some(key) = guard.room.owed else {
+        let Some(key) = guard.room.cleanup_due else {
             return;
         };
-        for at in 0..self.deferred.len() {
-            if deferred::add_to(&self.deferred[at], self.alloc, key) {
+        for at in 0..self.cleanup_queues.len() {
+            if cleanup_queue::add_to(&self.cleanup_queues[at], self.alloc, key) {
                 owe(guard, None);
                 return;
             }
@@ -143,9 +143,12 @@ impl Pool {
 
     // A key that was deferred. The first queue is asked last, so that those behind it are emptied.
     fn earlier(&self) -> Option<u64> {
-        let count = self.deferred.len();
+        let count = self.cleanup_queues.len();
         for at in 0..count {
-            if let Some(key) = deferred::take_from(&self.deferred[count - 1 - at], self.alloc) {
+            if let Some(key) = cleanup_queue::take_from(
+                &self.cleanup_queues[count - 1 - at],
+                self.alloc,
+            ) {
                 return Some(key);
             }
         }
@@ -157,7 +160,7 @@ impl Pool {
         requires map { guard.old.book ≡ self.now }
         ensures { guard.new ≡ guard.old }
     {
-        let own = guard.room.owed;
+        let own = guard.room.cleanup_due;
         owe(guard, None);
         for _ in 0..EARLIER {
             let Some(key) = self.earlier() else {
@@ -173,7 +176,7 @@ impl Pool {
         }
     }
 
-    // The guard's further node goes to a stock of its form, if it has one.
+    // The guard's further node goes to a free list of its form, if it has one.
     fn leave(&self, guard: &mut Guard)
         requires map { guard.old.book ≡ self.now }
         ensures { guard.new ≡ guard.old }
@@ -190,8 +193,8 @@ impl Pool {
         }
     }
 
-    // The guard's further node goes to the first stock of its form that no other thread is at. Each node begins at a stripe of its
-    // own, so that a thread that stops at a stock keeps a part of them alone from the others.
+    // The guard's further node goes to the first free list of its form that no other thread is at. Each node begins at a stripe of
+    // its own, so that a thread that stops at a free list keeps a part of them alone from the others.
     fn leave_once(&self, guard: &mut Guard)
         requires map { guard.old.book ≡ self.now }
         ensures { guard.new ≡ guard.old }
@@ -202,7 +205,7 @@ impl Pool {
         }
     }
 
-    // The guard's further node goes to the stock of its form in a stripe.
+    // The guard's further node goes to the free list of its form in a stripe.
     fn leave_at(&self, guard: &mut Guard, stripe: usize)
         requires map { guard.old.book ≡ self.now }
         ensures { guard.new ≡ guard.old }
@@ -211,28 +214,28 @@ impl Pool {
         if name == 0 {
             return;
         }
-        let Some(slot) = self.stock_at(form_below(name), stripe) else {
+        let Some(slot) = self.free_list_at(form_below(name), stripe) else {
             return;
         };
-        if add_to(slot, &self.map, self.alloc, name, &mut guard.pass) {
+        if add_to(slot, &self.map, self.alloc, name, &mut guard.seat) {
             guard.room.spare.more = 0;
         }
     }
 
-    // The stock of a form in a stripe.
-    fn stock_at(&self, form: NodeType, stripe: usize) -> Option<&Counted<Stock>>
+    // The free list of a form in a stripe.
+    fn free_list_at(&self, form: NodeType, stripe: usize) -> Option<&Counted<FreeList>>
         ensures { IfSome result (λ slot. slot.now ≡ self.now) }
     {
         let place = stripe
             .wrapping_mul(FORMS.len())
             .wrapping_add(place_of(form) as usize);
-        self.stocks.get(place)
+        self.free_lists.get(place)
     }
 
-    // Whether another thread is at a stock of this form.
+    // Whether another thread is at a free list of this form.
     fn is_taken(&self, form: NodeType) -> bool {
         for stripe in 0..STRIPES {
-            if let Some(slot) = self.stock_at(form, stripe) {
+            if let Some(slot) = self.free_list_at(form, stripe) {
                 if slot.load() == MARKED {
                     return true;
                 }
@@ -273,7 +276,7 @@ impl Pool {
         }
     }
 
-    // A node of a form, if a stock has one.
+    // A node of a form, if a free list has one.
     fn supply_one(&self, guard: &mut Guard, form: NodeType)
         requires map { guard.old.book ≡ self.now }
         ensures { guard.new ≡ guard.old }
@@ -286,7 +289,7 @@ impl Pool {
         }
     }
 
-    // A node of a form out of the first stock of it that has one. Whether there was one.
+    // A node of a form out of the first free list of it that has one. Whether there was one.
     fn supply_once(&self, guard: &mut Guard, form: NodeType) -> bool
         requires map { guard.old.book ≡ self.now }
         ensures { guard.new ≡ guard.old }
@@ -299,15 +302,15 @@ impl Pool {
         false
     }
 
-    // A node of a form out of its stock in a stripe. Whether there was one.
+    // A node of a form out of its free list in a stripe. Whether there was one.
     fn supply_at(&self, guard: &mut Guard, form: NodeType, stripe: usize) -> bool
         requires map { guard.old.book ≡ self.now }
         ensures { guard.new ≡ guard.old }
     {
-        let Some(slot) = self.stock_at(form, stripe) else {
+        let Some(slot) = self.free_list_at(form, stripe) else {
             return false;
         };
-        if let Some(name) = take_from(slot, &self.map, self.alloc, &mut guard.pass) {
+        if let Some(name) = take_from(slot, &self.map, self.alloc, &mut guard.seat) {
             let _ = guard.room.spare.keep(name);
             return true;
         }

@@ -1,8 +1,8 @@
 -- Below a node that the seat has locked, among others.
 use Rattle.std.proofs.Common.{◌≡◌, ℕ, ◌+◌, ◌*◌, ◌<◌, ◌≤◌, List, [], Some, None, refl, sym, ap, ◌∙◌, subst}
 use Rattle.node_base.specs.Form.{form_place}
-use Rattle.node_table.specs.TableNode.{TableNode}
-use Rattle.node_table.specs.declared.child.Child.TheVariants.{Node as Below}
+use Rattle.spec_node.specs.TableNode.{TableNode}
+use Rattle.spec_node.specs.declared.child.Child.TheVariants.{Node as Below}
 use Rattle.spec_map.specs.Map.{lookup}
 use Rattle.live_nodes.proofs.Frames.{each_in}
 use Rattle.live_nodes.specs.Nodes.{Content, node}
@@ -25,11 +25,11 @@ node_below_own id v b mine word saw m even reads a c own tall x lo w had spells 
     let k = p.each_view id v seat in
     let l : IsLocked p.plan ns p.contents id a c = each_in (IsOwn p.plan ns p.contents id) v.own (locked a c) own k.own in
     let at_a : home_of p.plan (p.plan.shape a.number) ≡ a.number = ap (home_of p.plan) l.shaped ∙ l.current in
-    let cur = p.tree.current a.number l.met.spot.below_trunk at_a in
+    let cur = p.tree.current a.number l.met.spot.below_root_word at_a in
     let new : Watch = watch a.number None (spot b.number s) in
     let below = had cur.its (subst (λ (z : Content). Encodes z cur.its) l.content cur.encodes) (cur.in_form ∙ l.met.spot.form) in
     let watched : IsWatched p.plan ns id new = record {
-      below_trunk = l.met.spot.below_trunk;
+      below_root_word = l.met.spot.below_root_word;
       low = l.met.spot.low;
       later = tt;
       leads = λ _. leads_down p.plan ns p.contents p.pairs p.tree p.nodes a.number at_a x lo (lookup cur.its.children x) w below b mb.spot spells (p.plan.shape a.number).height refl (subst (λ (z : Shape). 2 ≤ z.height) (sym l.shaped) tall) (cur.under x lo);

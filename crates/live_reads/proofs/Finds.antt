@@ -1,13 +1,13 @@
 -- What look-ups have found.
 use Rattle.std.proofs.Common.{◌≡◌, ℕ, ◌≤◌, zero, suc, Bool, true, false, List, Option, Some, None, ap, ◌∙◌, subst, arith, IfSome, sym}
-use Rattle.node_table.specs.declared.child.Child.TheVariants.{Node as Below}
+use Rattle.spec_node.specs.declared.child.Child.TheVariants.{Node as Below}
 use Rattle.share_rule.specs.History.{Entry}
 use Rattle.live_nodes.specs.Seats.{SeatView}
 use Rattle.live_layout.specs.Encodes.{IsWord}
 use Rattle.live_law.specs.Levels.{place_at}
 use Rattle.live_law.specs.Views.{View, Ask, ask, got, inserted}
 use Rattle.live_law.specs.Tree.{Answers}
-use Rattle.live_reads.specs.Ways.{Names, Sights, Keeps, Ended, Looked, Found}
+use Rattle.live_reads.specs.Paths.{Names, Sights, Keeps, Ended, Looked, Found}
 
 abbrev Seen : Type 0
 Seen = SeatView View

@@ -4,6 +4,6 @@ pub mod Roots
 pub mod Finds
 pub mod Sights
 pub mod Belows
-pub mod Forks
+pub mod Mismatches
 pub mod Stood
 pub mod Meetings

@@ -7,24 +7,24 @@ use Rattle.live_nodes.specs.Nodes.{Content}
 use Rattle.live_nodes.specs.Seats.{Agree}
 use Rattle.live_layout.specs.Words as cells
 use Rattle.live_layout.specs.Head.{IsHead}
-use Rattle.live_law.specs.Levels.{up, digit, Shape, Covers, way, Spot, place_at}
+use Rattle.live_law.specs.Levels.{up, digit, Shape, Covers, bytes_above, Spot, place_at}
 use Rattle.live_law.specs.Views.{View}
 use Rattle.live_law.specs.Tree.{HasPrefix, IsOf}
-use Rattle.live_law.proofs.Plans.{root-top, joined, way-key}
-use Rattle.live_reads.specs.Ways.{Names, Sights, Leaves, Keeps}
+use Rattle.live_law.proofs.Plans.{root-top, joined, bytes_above-key}
+use Rattle.live_reads.specs.Paths.{Names, Sights, Leaves, Keeps}
 use Rattle.live_reads.proofs.Views.{IsHeaded}
 use Rattle.live_reads.specs.Sees.{Alike, Sees, HasMet}
-use Rattle.live_reads.specs.declared.sight.Sight.{Sight}
-use Rattle.live_reads.specs.declared.sight.Sight.TheVariants as sights
+use Rattle.live_reads.specs.declared.prefix_match.PrefixMatch.{PrefixMatch}
+use Rattle.live_reads.specs.declared.prefix_match.PrefixMatch.TheVariants as prefix_matches
 
 abbrev Seen : Type 0
 Seen = SeatView View
 
 -- keys with the same bytes down to a height
-pub same_ways : (n k l : ℕ) → n ≤ 8 → k < 2 ^ 64 → l < 2 ^ 64 → ((i : ℕ) → i < n → digit (8 - i) k ≡ digit (8 - i) l) → up (8 - n) k ≡ up (8 - n) l
-same_ways zero k l low fits fits' same = root-top k fits ∙ sym (root-top l fits')
-same_ways (suc n) k l low fits fits' same =
-    let above = same_ways n k l (omega (arith, low)) fits fits' (λ i h. same i (omega (arith, h))) in
+pub same_bytes_above : (n k l : ℕ) → n ≤ 8 → k < 2 ^ 64 → l < 2 ^ 64 → ((i : ℕ) → i < n → digit (8 - i) k ≡ digit (8 - i) l) → up (8 - n) k ≡ up (8 - n) l
+same_bytes_above zero k l low fits fits' same = root-top k fits ∙ sym (root-top l fits')
+same_bytes_above (suc n) k l low fits fits' same =
+    let above = same_bytes_above n k l (omega (arith, low)) fits fits' (λ i h. same i (omega (arith, h))) in
     let next : suc (8 - suc n) ≡ 8 - n = omega (arith, low) in
     let byte : digit (suc (8 - suc n)) k ≡ digit (suc (8 - suc n)) l = subst (λ (z : ℕ). digit z k ≡ digit z l) (sym next) (same n (omega arith)) in
     let above' : up (suc (8 - suc n)) k ≡ up (suc (8 - suc n)) l = subst (λ (z : ℕ). up z k ≡ up z l) (sym next) above in
@@ -32,12 +32,12 @@ same_ways (suc n) k l low fits fits' same =
 
 module _ (p : List ℕ) (s : Shape) (key : ℕ) (fits : key < 2 ^ 64) (deep : length p + s.height ≡ 8) (has : HasPrefix p s) where
   -- down to the n-th byte
-  ways_down : (n : ℕ) → n ≤ length p → Alike p key n → up (8 - n) has.key ≡ up (8 - n) key
-  ways_down n low alike = same_ways n has.key key (omega (arith, low, deep)) has.fits fits (λ i h. sym (has.bytes i (omega (arith, h, low))) ∙ alike i h)
+  bytes_above_down : (n : ℕ) → n ≤ length p → Alike p key n → up (8 - n) has.key ≡ up (8 - n) key
+  bytes_above_down n low alike = same_bytes_above n has.key key (omega (arith, low, deep)) has.fits fits (λ i h. sym (has.bytes i (omega (arith, h, low))) ∙ alike i h)
 
   pub sees_cover : Alike p key (length p) → Covers s key
   sees_cover alike = let high : 8 - length p ≡ s.height = omega (arith, deep) in
-      sym (subst (λ (z : ℕ). up z has.key ≡ up z key) high (ways_down (length p) (omega arith) alike)) ∙ has.covers
+      sym (subst (λ (z : ℕ). up z has.key ≡ up z key) high (bytes_above_down (length p) (omega arith) alike)) ∙ has.covers
 
   -- or to another byte
   module _ (h b : ℕ) (some_height : 1 ≤ h) (level : h ≤ 8) (inside : 8 - h < length p) (byte : get_or p (8 - h) 0 ≡ b) (alike : Alike p key (8 - h)) where
@@ -45,25 +45,25 @@ module _ (p : List ℕ) (s : Shape) (key : ℕ) (fits : key < 2 ^ 64) (deep : le
     leaves_lower = omega (arith, inside, deep, level)
 
     same_above : up h has.key ≡ up h key
-    same_above = subst (λ (z : ℕ). up z has.key ≡ up z key) (let e : 8 - (8 - h) ≡ h = omega (arith, level) in e) (ways_down (8 - h) (omega (arith, inside)) alike)
+    same_above = subst (λ (z : ℕ). up z has.key ≡ up z key) (let e : 8 - (8 - h) ≡ h = omega (arith, level) in e) (bytes_above_down (8 - h) (omega (arith, inside)) alike)
 
-    pub leaves_top : way s h ≡ up h key
-    leaves_top = way-key s h has.key has.covers (let l = leaves_lower in omega (arith, l)) ∙ same_above
+    pub leaves_top : bytes_above s h ≡ up h key
+    leaves_top = bytes_above-key s h has.key has.covers (let l = leaves_lower in omega (arith, l)) ∙ same_above
 
-    pub leaves_byte : way s (h - 1) ≡ 256 * up h key + b
+    pub leaves_byte : bytes_above s (h - 1) ≡ 256 * up h key + b
     leaves_byte =
         let next : suc (h - 1) ≡ h = omega (arith, some_height) in
         let its : digit h has.key ≡ b = sym (ap (λ (z : ℕ). digit z has.key) (let e : 8 - (8 - h) ≡ h = omega (arith, level) in e)) ∙ (sym (has.bytes (8 - h) inside) ∙ byte) in
         let split : 256 * up h has.key + digit h has.key ≡ up (h - 1) has.key = subst (λ (z : ℕ). 256 * up z has.key + digit z has.key ≡ up (h - 1) has.key) next (joined (h - 1) has.key (up (suc (h - 1)) has.key) refl) in
-        way-key s (h - 1) has.key has.covers (let l = leaves_lower in omega (arith, l)) ∙ (sym split ∙ ap (λ (z : ℕ × ℕ). 256 * z.0 + z.1) (λ i. (same_above i, its i)))
+        bytes_above-key s (h - 1) has.key has.covers (let l = leaves_lower in omega (arith, l)) ∙ (sym split ∙ ap (λ (z : ℕ × ℕ). 256 * z.0 + z.1) (λ i. (same_above i, its i)))
 
--- a key that leaves a node's way has no place there
+-- a key that leaves a node's path has no place there
 pub leaves_none : (v : Seen) (name key h b : ℕ) → (l : Leaves v name key h b) → Covers l.sighted.spot.shape key → ⊥
 leaves_none v name key h b l covers =
     let s : Shape = l.sighted.spot.shape in
     let lower = l.lower in
     let next : suc (h - 1) ≡ h = omega (arith, lower) in
-    let w = way-key s (h - 1) key covers (omega (arith, lower)) in
+    let w = bytes_above-key s (h - 1) key covers (omega (arith, lower)) in
     let split : 256 * up h key + digit h key ≡ up (h - 1) key = subst (λ (z : ℕ). 256 * up z key + digit z key ≡ up (h - 1) key) next (joined (h - 1) key (up (suc (h - 1)) key) refl) in
     let is = l.byte_is in
     l.other (omega (arith, w, split, is))
@@ -74,7 +74,7 @@ sights_kept v w k name n = record { spot = n.spot; met = k.met n.spot n.met; pla
 -- what a node's head says that was read with the others
 module _ (key : ℕ) (fits : key < 2 ^ 64) (saw : List (ℕ × ℕ)) (head : ℕ) (at_head : (c : Content) → Agree c saw → cells.at c 0 ≡ head) where
   -- of the node's height, and that it covers the key
-  module _ (h : ℕ) (sees : (form : ℕ) (p : List ℕ) → IsHead head form p → Sees p key (sights.Covers h)) where
+  module _ (h : ℕ) (sees : (form : ℕ) (p : List ℕ) → IsHead head form p → Sees p key (prefix_matches.Covers h)) where
     pub covers_by : (a : Spot) (s : Shape) → IsOf a s saw → (s.height ≡ h) × Covers s key
     covers_by a s is =
         let word : IsHead head (form_place is.its.form) is.its.prefix = subst (λ (z : ℕ). IsHead z (form_place is.its.form) is.its.prefix) (at_head is.content is.agrees) is.encodes.head in
@@ -100,8 +100,8 @@ module _ (w : Seen) (b : Book) (words : List Name) (t name key : ℕ) (fits : ke
   abbrev its : Spot
   its = x.sighted.spot
 
-  pub sees_head : (o : Sight) → ((form : ℕ) (p : List ℕ) → IsHead head form p → Sees p key o) → HasMet w b words t name key o
-  sees_head (sights.Covers h) sees =
+  pub sees_head : (o : PrefixMatch) → ((form : ℕ) (p : List ℕ) → IsHead head form p → Sees p key o) → HasMet w b words t name key o
+  sees_head (prefix_matches.Covers h) sees =
       let by = covers_by key fits saw head at_head h sees its its.shape x.is in
       let deep = x.is.deep in
       let short = x.is.encodes.head.short in
@@ -122,7 +122,7 @@ module _ (w : Seen) (b : Book) (words : List Name) (t name key : ℕ) (fits : ke
         omega (arith, deep, short, high),
         omega (arith, deep, high),
       )
-  sees_head (sights.Leaves h b) all =
+  sees_head (prefix_matches.Leaves h b) all =
       let p = x.is.its.prefix in
       let deep = x.is.deep in
       let short = x.is.encodes.head.short in

@@ -3,16 +3,16 @@ use Rattle.std.proofs.Common.{ℕ, ◌<◌, ◌≤◌, arith}
 use Rattle.live_nodes.specs.Seats.{Place, SeatView, IsIn}
 use Rattle.live_law.specs.Levels.{Spot, place_at}
 use Rattle.live_law.specs.Views.{View}
-use Rattle.live_reads.specs.Ways.{Names, Keeps}
-use Rattle.live_reads.specs.Stands.{Stands}
-use Rattle.live_reads.specs.declared.descend.Stand.{Stand}
+use Rattle.live_reads.specs.Paths.{Names, Keeps}
+use Rattle.live_reads.specs.Positions.{KnowsPosition}
+use Rattle.live_reads.specs.declared.descend.Position.{Position}
 use Rattle.live_reads.proofs.Finds.{names_kept}
 
 abbrev Seen : Type 0
 Seen = SeatView View
 
-abbrev stand : ℕ → ℕ → ℕ → ℕ → Stand
-stand a l n h = record { above = a; level = l; name = n; height = h }
+abbrev position : ℕ → ℕ → ℕ → ℕ → Position
+position a l n h = record { above = a; level = l; name = n; height = h }
 
 module _ (v w : Seen) (places : (p : Place) → IsIn p v.places → IsIn p w.places) (met : (a : Spot) → IsIn a v.client.met → IsIn a w.client.met) where
   names_known : (name key height : ℕ) → Names v name key height → Names w name key height
@@ -25,8 +25,8 @@ module _ (v w : Seen) (places : (p : Place) → IsIn p v.places → IsIn p w.pla
     covers = n.covers;
   }
 
-  pub stands_known : (key : ℕ) (s : Stand) → Stands v key s → Stands w key s
-  stands_known key s e = record {
+  pub position_known : (key : ℕ) (s : Position) → KnowsPosition v key s → KnowsPosition w key s
+  position_known key s e = record {
     named = names_known s.name key s.height e.named;
     upper = λ low. names_known s.above key s.level (e.upper low);
     lower = e.lower;
@@ -35,12 +35,12 @@ module _ (v w : Seen) (places : (p : Place) → IsIn p v.places → IsIn p w.pla
     high = e.high;
   }
 
-pub stands_kept : (v w : Seen) (key : ℕ) (s : Stand) → Keeps v w → Stands v key s → Stands w key s
-stands_kept v w key s k = stands_known v w k.places k.met key s
+pub position_kept : (v w : Seen) (key : ℕ) (s : Position) → Keeps v w → KnowsPosition v key s → KnowsPosition w key s
+position_kept v w key s k = position_known v w k.places k.met key s
 
 -- at the root
-pub stands_first : (v : Seen) (key name : ℕ) → Names v name key 8 → Stands v key (stand name 8 name 8)
-stands_first v key name n = record {
+pub position_first : (v : Seen) (key name : ℕ) → Names v name key 8 → KnowsPosition v key (position name 8 name 8)
+position_first v key name n = record {
   named = n;
   upper = λ low. absurd (omega (arith, low));
   lower = λ low. low;
@@ -50,8 +50,8 @@ stands_first v key name n = record {
 }
 
 -- further down
-pub stands_below : (v w : Seen) (key : ℕ) (s : Stand) (name height : ℕ) → Keeps v w → Stands v key s → Names w name key height → 1 ≤ height → height < s.height → Stands w key (stand s.name s.height name height)
-stands_below v w key s name height k e n some_height lower = record {
+pub position_below : (v w : Seen) (key : ℕ) (s : Position) (name height : ℕ) → Keeps v w → KnowsPosition v key s → Names w name key height → 1 ≤ height → height < s.height → KnowsPosition w key (position s.name s.height name height)
+position_below v w key s name height k e n some_height lower = record {
   named = n;
   upper = λ _. names_kept v w s.name key s.height k e.named;
   lower = λ _. lower;

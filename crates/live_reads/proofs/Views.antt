@@ -1,7 +1,7 @@
 -- What a seat knows, step by step.
 use Rattle.std.proofs.Common.{◌≡◌, ◌≢◌, ℕ, ◌+◌, ◌-◌, ◌*◌, ◌<◌, zero, suc, Bool, true, false, cond, List, [], ◌∷◌, ◌++◌, length, get_or, Option, Some, None, IfSome, refl, sym, ap, ◌∙◌, subst, inl, inr, arith, eq-eqb}
-use Rattle.node_table.specs.TableNode.{TableNode, Child}
-use Rattle.node_table.specs.declared.child.Child.TheVariants.{Payload, Node as Below}
+use Rattle.spec_node.specs.TableNode.{TableNode, Child}
+use Rattle.spec_node.specs.declared.child.Child.TheVariants.{Payload, Node as Below}
 use Rattle.spec_map.specs.Map.{lookup}
 use Rattle.word_book.specs.Book.{Book, Name, name, reads, none_joined}
 use Rattle.node_base.specs.Form.{form_place}
@@ -20,7 +20,7 @@ use Rattle.live_law.specs.Levels.{up, digit, Shape, Spot, spot, name_of, Covers,
 use Rattle.live_law.specs.Views.{View, Ask, got}
 use Rattle.live_law.specs.Tree.{IsMap, LearnsNode, LearnsHead, Headed, Looks, GoesTo, HasAnswer, Answers, IsOfKind, IsNow, IsOf}
 use Rattle.live_law.proofs.Looks.{node_looks, node_heads}
-use Rattle.live_reads.specs.Ways.{KnowsTrunk, Names, Sights, AreNamed, HasOpened, IsOpen, Keeps, Told}
+use Rattle.live_reads.specs.Paths.{KnowsRootWord, Names, Sights, AreNamed, HasOpened, IsOpen, Keeps, Told}
 
 abbrev Seen : Type 0
 Seen = SeatView View
@@ -67,26 +67,26 @@ learned_keeps v w ps c rs e met own = record {
   room = ap (λ (z : Seen). z.room) e;
 }
 
--- THE TRUNK
-abbrev trunk : Place
-trunk = place 0 1 1
+-- THE ROOT WORD
+abbrev root_word : Place
+root_word = place 0 1 1
 
-module _ (v : Seen) (known : KnowsTrunk v) (k₁ : ℕ) (at₁ : 1 ≡ k₁) where
-  pub trunk_place : KnowsPlace v k₁
-  trunk_place = (trunk, (known, at₁))
+module _ (v : Seen) (known : KnowsRootWord v) (k₁ : ℕ) (at₁ : 1 ≡ k₁) where
+  pub root_word_place : KnowsPlace v k₁
+  root_word_place = (root_word, (known, at₁))
 
   module _ (v₁ : Seen) (n : ℕ) (took_it : Takes (reads k₁) v n none_joined v₁) where
-    pub trunk_taken : v₁ ≡ reading v 0 n []
-    trunk_taken = took_it trunk known at₁
+    pub root_word_taken : v₁ ≡ reading v 0 n []
+    root_word_taken = took_it root_word known at₁
 
     module _ (k₂ : ℕ) (at₂ : 2 ≡ k₂) where
-      pub trunk_cell : KnowsCell v₁ k₂
-      trunk_cell = (trunk, 0, (subst KnowsTrunk (sym trunk_taken) known, (let l : 0 < 1 = omega arith in l), at₂))
+      pub root_word_cell : KnowsCell v₁ k₂
+      root_word_cell = (root_word, 0, (subst KnowsRootWord (sym root_word_taken) known, (let l : 0 < 1 = omega arith in l), at₂))
 
       module _ (v₂ : Seen) (x : ℕ) (saw_it : Sees (reads k₂) v₁ x none_joined v₂) where
-        pub trunk_read : v₂ ≡ reading v 0 n ((0, x) ∷ [])
-        trunk_read = saw_it trunk 0 (subst KnowsTrunk (sym trunk_taken) known) (let l : 0 < 1 = omega arith in l) at₂
-            ∙ (ap (λ (z : Seen). saw z 0 (0, x)) trunk_taken ∙ ap (λ (rs : List Read). seat_view v.client v.places rs v.holds v.room) (saw_first 0 n (0, x) [] v.reads))
+        pub root_word_read : v₂ ≡ reading v 0 n ((0, x) ∷ [])
+        root_word_read = saw_it root_word 0 (subst KnowsRootWord (sym root_word_taken) known) (let l : 0 < 1 = omega arith in l) at₂
+            ∙ (ap (λ (z : Seen). saw z 0 (0, x)) root_word_taken ∙ ap (λ (rs : List Read). seat_view v.client v.places rs v.holds v.room) (saw_first 0 n (0, x) [] v.reads))
 
 -- A NODE
 pub if_some : {A : Type 0} {P Q : A → Type 0} (o : Option A) → ((x : A) → P x → Q x) → IfSome o P → IfSome o Q
@@ -126,7 +126,7 @@ first_word p b words of w d is =
     let e : name (p.key + 0) b ≡ w = sym (of.1 0 d (let l = of.0 in omega (arith, l))) ∙ is in
     ((let z : p.key ≡ p.key + 0 = omega arith in z) ∙ ap (λ (x : Name). x.key) e, sym (ap (λ (x : Name). x.book) e))
 
--- What was found ends the way, or leads on.
+-- What was found ends the path, or leads on.
 ends : (look : Bool) (q : Ask) (height : ℕ) (v w : Seen) (a : Spot) (ps : List Place) (rs : List Read) (c : View) (o : Option (Child ℕ)) (found : Option ℕ) → a.shape.height ≡ height → w ≡ seat_view c (ps ++ v.places) rs v.holds v.room
     → IsOfKind height o → IsBelow o found → Looks look q v.client a o ps c → Keeps v w × Told look q height found v w
 ends look q height v w a ps rs c o (Some x) high is kind below then = some_there height o high kind below then
@@ -330,7 +330,7 @@ module _ (v : Seen) (b : Book) (words : List Name) (t name key height : ℕ) (o 
           let below : IsBelow (lookup x.is.its.children (digit open_spot.shape.height q.key)) found =
           subst (λ (z : ℕ × ℕ). IsBelow (lookup x.is.its.children (digit z.0 z.1)) found) (λ i. (sym o.names.high i, sym asked i)) (finds x.is.content x.is.its x.is.agrees x.is.encodes x.is.in_form) in
           let kind : IsOfKind open_spot.shape.height (lookup x.is.its.children (digit open_spot.shape.height q.key)) = subst (λ (z : Shape). IsOfKind z.height (lookup x.is.its.children (digit z.height q.key))) shape_is x.of_kind in
-          let then = subst (λ (z : Shape). Covers z q.key → Looks reads_it q v.client (spot open_spot.number z) (lookup x.is.its.children (digit z.height q.key)) h.0 h.1) shape_is x.on_way covers in
+          let then = subst (λ (z : Shape). Covers z q.key → Looks reads_it q v.client (spot open_spot.number z) (lookup x.is.its.children (digit z.height q.key)) h.0 h.1) shape_is x.on_path covers in
           ends reads_it q height v w open_spot h.0 (read open_spot.number t saw_it ∷ o.opened.before) h.1 (lookup x.is.its.children (digit open_spot.shape.height q.key)) found o.names.high h.2
           (subst (λ (z : ℕ). IsOfKind z (lookup x.is.its.children (digit open_spot.shape.height q.key))) o.names.high kind) below then
 

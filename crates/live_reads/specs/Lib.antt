@@ -1,6 +1,6 @@
-pub mod Ways
+pub mod Paths
 pub mod Sees
-pub mod Stands
-pub mod Forks
+pub mod Positions
+pub mod Mismatches
 pub mod Meetings
 pub mod Roots

@@ -1,4 +1,4 @@
--- What a seat has seen once the trunk was read.
+-- What a seat has seen once the root word was read.
 use Rattle.std.specs.Prelude.{◌≡◌, ℕ, Option, Some, None}
 use Rattle.live_nodes.specs.Seats.{SeatView}
 use Rattle.live_law.specs.Views.{View}

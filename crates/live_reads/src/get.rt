@@ -1,26 +1,26 @@
 //! A look-up.
 ghost use Rattle.std.specs.Prelude.{◌≡◌, true};
-ghost use Rattle.live_reads.specs.Ways.{KnowsTrunk, Keeps, Found};
+ghost use Rattle.live_reads.specs.Paths.{KnowsRootWord, Keeps, Found};
 
-use crate::fork::ends_above;
-use crate::sight::{Next, step};
-use crate::way::{Nodes, Pass, look, open, root};
+use crate::mismatch::ends_above;
+use crate::path::{Nodes, Seat, look, open, root};
+use crate::prefix_match::{Next, step};
 use live_law::law::Asks;
 
 /// The value of a key. `None` where a writer came in between.
-pub fn get_once<A: Asks>(nodes: &Nodes, key: u64, pass: &mut Pass) -> Option<Option<u64>>
-    requires book { pass.old.book ≡ nodes.now }
-    requires asks { (A.ask.key ≡ key) × (A.ask.caller ≡ pass.old.id) × (A.reads ≡ true) }
-    requires trunk { KnowsTrunk pass.old.view }
-    ensures told { (pass.new.book ≡ pass.old.book) × (pass.new.id ≡ pass.old.id)
-        × Keeps pass.old.view pass.new.view
-        × Found A.ask result pass.old.view pass.new.view }
+pub fn get_once<A: Asks>(nodes: &Nodes, key: u64, seat: &mut Seat) -> Option<Option<u64>>
+    requires book { seat.old.book ≡ nodes.now }
+    requires asks { (A.ask.key ≡ key) × (A.ask.caller ≡ seat.old.id) × (A.reads ≡ true) }
+    requires root_word { KnowsRootWord seat.old.view }
+    ensures told { (seat.new.book ≡ seat.old.book) × (seat.new.id ≡ seat.old.id)
+        × Keeps seat.old.view seat.new.view
+        × Found A.ask result seat.old.view seat.new.view }
 {
-    let mut name = root(nodes, key, pass)?;
+    let mut name = root(nodes, key, seat)?;
     let mut height = 8usize;
-    let mut here = open(nodes, name, pass)?;
+    let mut here = open(nodes, name, seat)?;
     while height > 1 {
-        let step = step::<A>(nodes, here, name, height, key, pass)?;
+        let step = step::<A>(nodes, here, name, height, key, seat)?;
         match step.next {
             Next::Ends => return Some(None),
             Next::Goes(below, lower) => {
@@ -28,13 +28,13 @@ pub fn get_once<A: Asks>(nodes: &Nodes, key: u64, pass: &mut Pass) -> Option<Opt
                 height = lower;
                 here = step.here;
             }
-            Next::Forks(fork) => {
-                if ends_above::<A>(nodes, name, height, fork.below, key, pass) {
+            Next::Mismatches(mismatch) => {
+                if ends_above::<A>(nodes, name, height, mismatch.below, key, seat) {
                     return Some(None);
                 }
                 return None;
             }
         }
     }
-    look::<A>(here, name, 1, key, pass)
+    look::<A>(here, name, 1, key, seat)
 }

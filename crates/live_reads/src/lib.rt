@@ -1,12 +1,12 @@
 //! How a caller reads a map of several levels without a lock.
 //!
 //! A look-up goes down from the root, and checks each node's version word behind what it read there. The check at which it
-//! ends is the moment of the call. A node on the way may have no key that begins like the one that is looked for: the key
-//! leaves the way there (`fork`).
+//! ends is the moment of the call. A node on the path may have no key that begins like the one that is looked for: the key
+//! leaves the path there (`mismatch`).
 //!
-//! - `way`: the root, and a node that is opened and looked up
-//! - `sight`: a step down
-//! - `descend`: the way to where a key is, or would be
+//! - `path`: the root, and a node that is opened and looked up
+//! - `prefix_match`: a step down
+//! - `descend`: the path to where a key is, or would be
 //! - `get`: a key's value
 //! - `meeting`: two callers meet
 //!
@@ -14,8 +14,8 @@
 #![tactic(auto)]
 
 pub mod descend;
-pub mod fork;
 pub mod get;
 pub mod meeting;
-pub mod sight;
-pub mod way;
+pub mod mismatch;
+pub mod path;
+pub mod prefix_match;

@@ -3,9 +3,9 @@ ghost use Rattle.std.specs.Prelude.{◌≡◌, ◌≢◌};
 ghost use Rattle.live_nodes.specs.Plays.{Meets};
 ghost use Rattle.live_reads.specs.Meetings.{HaveMet};
 
-use crate::way::Pass;
-use live_law::law::{Levels, Mine};
-use live_nodes::plays::Encounter;
+use crate::path::Seat;
+use live_law::law::{MapLaw, MapView};
+use live_nodes::plays::OnMeet;
 use live_nodes::room;
 use std::marker::{Brand, PhantomData};
 
@@ -29,14 +29,14 @@ pub struct Both<C> {
     of: PhantomData<C>,
 }
 
-impl<C: Callers> Encounter<Mine> for Both<C> {
+impl<C: Callers> OnMeet<MapView> for Both<C> {
     ghost use Rattle.live_reads.specs.Meetings.{HaveMet};
 
     ghost told = { HaveMet C.first C.second };
 }
 
 /// Two callers of one map meet.
-pub fn meet<C: Callers>(a: &mut Pass, b: &mut Pass)
+pub fn meet<C: Callers>(a: &mut Seat, b: &mut Seat)
     requires book { a.old.book ≡ b.old.book }
     requires callers { (C.first ≡ a.old.id) × (C.second ≡ b.old.id) }
     ensures first { (a.new.book ≡ a.old.book) × (a.new.id ≡ a.old.id) }
@@ -44,5 +44,5 @@ pub fn meet<C: Callers>(a: &mut Pass, b: &mut Pass)
     ensures differ { a.old.id ≢ b.old.id }
     ensures told { Meets (HaveMet C.first C.second) a.old.view b.old.view a.new.view b.new.view }
 {
-    room::meet::<Mine, Levels, Both<C>>(a, b)
+    room::meet::<MapView, MapLaw, Both<C>>(a, b)
 }

@@ -2,7 +2,7 @@
 use Rattle.std.proofs.Common.{◌≡◌, ◌≢◌, ℕ, suc, ◌+◌, ◌-◌, ◌*◌, ◌%◌, ◌<◌, ◌≤◌, false, List, [], ◌∷◌, Option, Some, None, IfSome, IfNone, length, refl, sym, ap, ◌∙◌, subst, arith, ne_eqb, eq-eqb, inl, inr}
 use Rattle.std.proofs.lemmas.Bool.{cases_lt}
 use Rattle.spec_map.specs.Map.{lookup}
-use Rattle.node_table.specs.TableNode.{Child}
+use Rattle.spec_node.specs.TableNode.{Child}
 use Rattle.live_nodes.specs.Seats.{SeatView}
 use Rattle.live_layout.specs.Encodes.{payload_of}
 use Rattle.live_layout.proofs.StandLaws.{leaf-found}
@@ -10,7 +10,7 @@ use Rattle.live_layout.specs.Order.{HasNearest}
 use Rattle.live_law.specs.Levels.{up, digit}
 use Rattle.live_law.specs.Views.{View}
 use Rattle.live_law.proofs.Plans.{up-up}
-use Rattle.live_reads.specs.Ways.{Names}
+use Rattle.live_reads.specs.Paths.{Names}
 use Rattle.live_scans.specs.inner.Moments.{HasUnder, IsRead, HasNone, IsBeside}
 use Rattle.live_scans.proofs.Uppers.{up-rises}
 use Rattle.live_scans.proofs.Composed.{one_moment}

@@ -53,8 +53,8 @@ pub nothing_read : (up : Bool) (old : History) (low high : ℕ) → high ≤ low
 nothing_read up old low high none = nothing_between up old old low high none
 
 -- OF FEWER
-pub narrowed : (old new : History) (low high high' : ℕ) (ps : Pairs ℕ) → HasRead true old new low high ps → high' ≤ high → Rises low high' ps → HasRead true old new low high' ps
-narrowed old new low high high' ps r less rises = record {
+pub shrunk : (old new : History) (low high high' : ℕ) (ps : Pairs ℕ) → HasRead true old new low high ps → high' ≤ high → Rises low high' ps → HasRead true old new low high' ps
+shrunk old new low high high' ps r less rises = record {
   moment = r.moment;
   between = λ k l h. r.between k l (omega (arith, h, less));
   value = λ k l h. r.value k l (omega (arith, h, less));
@@ -161,7 +161,7 @@ pub reads_fewer : (id : ℕ) (v w : Seen) (low high high' : ℕ) (ps : Pairs ℕ
 reads_fewer id v w low high high' ps r less rises = record {
   fits = r.fits;
   legal = r.legal;
-  read = narrowed v.client.seen w.client.seen low high high' ps r.read less rises;
+  read = shrunk v.client.seen w.client.seen low high high' ps r.read less rises;
 }
 
 pub reads_then : (id : ℕ) (u v w : Seen) (low m high : ℕ) (xs ys : Pairs ℕ) → SeesMore v.client.seen id u.client.seen → HasRead true u.client.seen v.client.seen low m xs → ReadsOn id v w m high ys → low ≤ m → m ≤ high → (m % 256 ≡ 0) ⊎ (low ≡ m) → ReadsOn id u w low high (xs ++ ys)

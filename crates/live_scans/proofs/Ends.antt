@@ -8,7 +8,7 @@ use Rattle.live_law.specs.Known.{Known}
 use Rattle.live_law.proofs.Plans.{root-top}
 use Rattle.live_growth.specs.Calls.{known_of}
 use Rattle.live_reads.specs.Roots.{Begins}
-use Rattle.live_reads.specs.Ways.{Names}
+use Rattle.live_reads.specs.Paths.{Names}
 use Rattle.live_scans.specs.Scans.{HasRead, HasBegun}
 use Rattle.live_scans.proofs.Composed.{nothing_between}
 use Rattle.live_scans.proofs.Nexts.{names_as}

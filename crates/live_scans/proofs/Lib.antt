@@ -1,6 +1,6 @@
 pub mod Uppers
 pub mod Wholes
-pub mod Forks
+pub mod Mismatches
 pub mod Composed
 pub mod Nones
 pub mod Passes

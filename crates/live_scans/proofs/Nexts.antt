@@ -1,10 +1,10 @@
--- The way on from a key below a node.
+-- The path on from a key below a node.
 use Rattle.std.proofs.Common.{◌≡◌, ◌≢◌, ◌⊎◌, ℕ, zero, suc, ◌+◌, ◌-◌, ◌*◌, ◌%◌, ◌<◌, ◌≤◌, ◌^◌, Bool, true, cond, nat_eq, List, [], ◌∷◌, length, take, drop, Option, Some, None, refl, sym, ap, ◌∙◌, subst, inl, inr, arith, eq-eqb, ne_eqb}
 use mathlib.Core.Logic.{dite}
 use native.Mathlib.Decide.{ℕ_discrete}
-use Rattle.node_table.specs.TableNode.{TableNode}
-use Rattle.node_table.specs.TableNode as table
-use Rattle.node_table.specs.declared.child.Child.TheVariants.{Payload, Node as Below}
+use Rattle.spec_node.specs.TableNode.{TableNode}
+use Rattle.spec_node.specs.TableNode as table
+use Rattle.spec_node.specs.declared.child.Child.TheVariants.{Payload, Node as Below}
 use Rattle.spec_map.specs.Map.{Pairs, lookup}
 use Rattle.word_book.specs.Book.{Book, Name, reads, none_joined}
 use Rattle.share_rule.specs.History.{Entry, IsHistory}
@@ -23,9 +23,9 @@ use Rattle.live_law.specs.Views.{View, watch, Ask}
 use Rattle.live_law.specs.Tree.{IsMap, IsOf, IsOfKind, LearnsNode, LearnsHead, LearnsBelow, Looks, Watches}
 use Rattle.live_law.proofs.Looks.{node_below, HadBelow}
 use Rattle.live_law.proofs.Plans.{digit-low}
-use Rattle.live_reads.specs.Ways.{Names, Sights, HasOpened, IsOpen, Keeps}
+use Rattle.live_reads.specs.Paths.{Names, Sights, HasOpened, IsOpen, Keeps}
 use Rattle.live_reads.specs.Sees.{Sees}
-use Rattle.live_reads.specs.declared.sight.Sight.TheVariants as sights
+use Rattle.live_reads.specs.declared.prefix_match.PrefixMatch.TheVariants as prefix_matches
 use Rattle.live_reads.proofs.Views.{reading_on, reading_on_keeps, learned_keeps, open_read, may_check_open, open_checked, open_missed, may_look, look_missed, look_ends, may_meet, meet_missed, meet_head, same_named}
 use Rattle.live_reads.proofs.Sights.{sights_kept, covers_by}
 use Rattle.live_reads.proofs.Finds.{keeps_then, names_kept, looked_below}
@@ -39,8 +39,8 @@ use Rattle.live_scans.proofs.Uppers.{up-rises}
 use Rattle.live_scans.proofs.Composed.{none_read, reads_then, reads_since, reads_fewer}
 use Rattle.live_layout.proofs.PageLaws.{filled_none}
 use Rattle.live_scans.specs.inner.Steps.{IsStep}
-use Rattle.live_scans.specs.inner.Stops.{IsStand, Reaches}
-use Rattle.live_scans.specs.declared.seek.Stand.{Stand}
+use Rattle.live_scans.specs.inner.Stops.{IsPosition, Reaches}
+use Rattle.live_scans.specs.declared.seek.Position.{Position}
 use Rattle.live_scans.specs.declared.seek.Reach.{Reach}
 use Rattle.live_scans.specs.declared.seek.Reach.TheVariants as reaches
 use Rattle.live_scans.proofs.Passes.{passed_since}
@@ -194,7 +194,7 @@ module _ (v : Seen) (b : Book) (words : List Name) (t name key height byte word 
             ap (λ (z : Seen). z.client.seen) h.2 ∙ ap (λ (z : View). z.seen) x.watches,
           )
 
-      pub next_is : (b' : Book) → b' ≡ b → b' ≡ b₂ → t₂ % 4 ≡ 0 → (head first : ℕ) → first < 2 ^ 64 → ((d : Content) → Agree d saw₃ → cells.at d 0 ≡ head) → (low : ℕ) → ((form : ℕ) (p : List ℕ) → IsHead head form p → Sees p first (sights.Covers low))
+      pub next_is : (b' : Book) → b' ≡ b → b' ≡ b₂ → t₂ % 4 ≡ 0 → (head first : ℕ) → first < 2 ^ 64 → ((d : Content) → Agree d saw₃ → cells.at d 0 ≡ head) → (low : ℕ) → ((form : ℕ) (p : List ℕ) → IsHead head form p → Sees p first (prefix_matches.Covers low))
           → IsNext w b' words t name key height byte word below low first words₂ t₂
       next_is b' book book₂ even head first fits at_head low sees =
           let h = next_checked.hit hit in
@@ -394,7 +394,7 @@ turns_since c id u v w key height None is seen t = tt
 turns_since c id u v w key height (Some (turns.Past last)) is seen t = passed_since c id u v w key last is seen t
 turns_since c id u v w key height (Some (turns.Goes d)) is seen t = (t.0, t.1, t.2, t.3, t.4, reads_since id u v w key d.first [] seen (subst (λ (z : ℕ). ReadsOn z v w key d.first []) is t.5))
 
--- a turn on the way of a reader
+-- a turn on the path of a reader
 pub turned_past : (c id : ℕ) (u v w : Seen) (key from height last : ℕ) (o : Option Turn) → c ≡ id → SeesMore v.client.seen id u.client.seen → HasRead true u.client.seen v.client.seen key from [] → key ≤ from → (from % 256 ≡ 0) ⊎ (key ≡ from) → Turns c v w from height o → o ≡ Some (turns.Past last) → IsPassed id u w key last
 turned_past c id u v w key from height last o is seen read low seam t e = passed_on c id u v w key from last is seen read low seam (subst (Turns c v w from height) e t)
 
@@ -427,8 +427,8 @@ reaches_since c id u v w k key (reaches.Leaf name first) is same seen r = let lo
   subst (λ (z : ℕ). ReadsOn id u w z first []) same (reads_since id u v w k first [] seen (subst (λ (z : ℕ). ReadsOn z v w k first []) is r.3)),
 )
 
-pub stands_on : (v w : Seen) (s : Stand) → Keeps v w → IsStand v s → IsStand w s
-stands_on v w s keeps i = (i.0, i.1, names_kept v w s.name s.key s.height keeps i.2)
+pub position_on : (v w : Seen) (s : Position) → Keeps v w → IsPosition v s → IsPosition w s
+position_on v w s keeps i = (i.0, i.1, names_kept v w s.name s.key s.height keeps i.2)
 
 -- STEPS
 pub cut_step : (id : ℕ) (u w : Seen) (key limit start first : ℕ) (buffer : List (ℕ × ℕ)) → key ≤ limit → limit < first → start < length buffer → ReadsOn id u w key first [] → IsStep id u w key limit start buffer start limit

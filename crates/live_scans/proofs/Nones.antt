@@ -1,8 +1,8 @@
 -- What a node shows of keys that aren't there, and of those of a leaf.
 use Rattle.std.proofs.Common.{◌≡◌, ◌≢◌, ℕ, zero, suc, ◌+◌, ◌-◌, ◌*◌, ◌/◌, ◌%◌, ◌<◌, ◌≤◌, true, List, Option, Some, None, refl, sym, ap, ◌∙◌, subst, arith}
 use Rattle.spec_map.specs.Map.{Pairs, lookup, Rises}
-use Rattle.node_table.specs.TableNode.{Child}
-use Rattle.node_table.specs.declared.child.Child.TheVariants.{Payload, Node as Below}
+use Rattle.spec_node.specs.TableNode.{Child}
+use Rattle.spec_node.specs.declared.child.Child.TheVariants.{Payload, Node as Below}
 use Rattle.word_book.specs.Book.{Book, Name}
 use Rattle.live_nodes.specs.Seats.{SeatView}
 use Rattle.live_layout.specs.Encodes.{IsBelow, payload_of}
@@ -11,11 +11,11 @@ use Rattle.live_layout.specs.Page.{AreListed}
 use Rattle.live_law.specs.Levels.{up, digit, Covers}
 use Rattle.live_law.specs.Views.{View}
 use Rattle.live_law.specs.Tree.{IsOfKind}
-use Rattle.live_law.proofs.Plans.{way-key, joined, digit-low}
-use Rattle.live_reads.specs.Ways.{Names}
-use Rattle.live_reads.specs.Forks.{IsForked}
+use Rattle.live_law.proofs.Plans.{bytes_above-key, joined, digit-low}
+use Rattle.live_reads.specs.Paths.{Names}
+use Rattle.live_reads.specs.Mismatches.{IsMismatched}
 use Rattle.live_scans.specs.inner.Moments.{HasUnder, IsRead, HasNone, IsWithin, IsBeside, ReadsOn}
-use Rattle.live_scans.specs.inner.Forks.{IsAside}
+use Rattle.live_scans.specs.inner.Mismatches.{IsAside}
 use Rattle.live_scans.proofs.Uppers.{up-rises}
 use Rattle.live_scans.proofs.Composed.{one_moment}
 
@@ -42,12 +42,12 @@ module _ (id : ℕ) (v w : Seen) (name key height : ℕ) (n : Names v name key h
   }
 
 -- BESIDE
-module _ (id : ℕ) (v w : Seen) (book : Book) (words : List Name) (t name key height at b : ℕ) (l : IsAside v book words t name key height at b) (x : IsRead id v.client l.forked.names.spot l.forked.names.spot.shape t l.forked.saw w.client) where
-  abbrev f : IsForked v book words t name key height
-  f = l.forked
+module _ (id : ℕ) (v w : Seen) (book : Book) (words : List Name) (t name key height at b : ℕ) (l : IsAside v book words t name key height at b) (x : IsRead id v.client l.mismatched.names.spot l.mismatched.names.spot.shape t l.mismatched.saw w.client) where
+  abbrev f : IsMismatched v book words t name key height
+  f = l.mismatched
 
   not_covered : (k : ℕ) → up (at - 1) k ≢ 256 * up at key + b → Covers f.watch.spot.shape k → ⊥
-  not_covered k other covers = let lower = l.lower in other (sym (way-key f.watch.spot.shape (at - 1) k covers (omega (arith, lower))) ∙ l.byte_is)
+  not_covered k other covers = let lower = l.lower in other (sym (bytes_above-key f.watch.spot.shape (at - 1) k covers (omega (arith, lower))) ∙ l.byte_is)
 
   under_node : (h k : ℕ) (o : Option (Child ℕ)) → 2 ≤ h → IsOfKind h o → IsBelow o (Some f.word) → up (at - 1) k ≢ 256 * up at key + b → HasUnder v.client f.names.spot.number t x.pairs k o → lookup x.pairs k ≡ None
   under_node h k None high kind is other u = absurd is

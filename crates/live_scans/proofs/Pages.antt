@@ -13,7 +13,7 @@ use Rattle.live_reads.specs.Roots.{Begins}
 use Rattle.live_growth.proofs.Ready.{made_call}
 use Rattle.live_scans.specs.Scans.{Moment, HasRead, HasBegun, GaveUp, HasWaited, HasPage, HasNext}
 use Rattle.live_scans.specs.inner.Steps.{IsPage}
-use Rattle.live_scans.proofs.Composed.{starts_then, nothing_between, narrowed}
+use Rattle.live_scans.proofs.Composed.{starts_then, nothing_between, shrunk}
 
 abbrev Seen : Type 0
 Seen = SeatView View
@@ -132,7 +132,7 @@ pub next_some : (k n : Known) (low : ℕ) (l : List (ℕ × ℕ)) (count : ℕ) 
 next_some k n low l count d x one some is p =
     let q : HasPage k low (2 ^ 64) 1 (x ∷ []) n = subst (λ (ps : Pairs ℕ). HasPage k low (2 ^ 64) 1 ps n) (take-one l count d one some ∙ ap (λ (z : ℕ × ℕ). z ∷ []) is) p in
     let rises = q.read.ascend in
-    (q.seen, narrowed q.seen.start.seen n.seen low q.end (x.0 + 1) (x ∷ []) q.read (omega (arith, rises)) (rises.0, omega arith, tt))
+    (q.seen, shrunk q.seen.start.seen n.seen low q.end (x.0 + 1) (x ∷ []) q.read (omega (arith, rises)) (rises.0, omega arith, tt))
 
 pub next_beyond : (k n : Known) (low : ℕ) → low ≡ 2 ^ 64 → HasBegun k n → HasNext k low None n
 next_beyond k n low is h = (h, nothing_between true h.start.seen n.seen low (2 ^ 64) (omega (arith, is)))

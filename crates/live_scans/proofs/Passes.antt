@@ -7,10 +7,10 @@ use Rattle.spec_map.specs.Map.{Pairs}
 use Rattle.share_rule.specs.History.{Entry}
 use Rattle.live_nodes.specs.Seats.{SeatView}
 use Rattle.live_law.specs.Views.{View, Ask}
-use Rattle.live_reads.specs.Ways.{Ended, Keeps}
+use Rattle.live_reads.specs.Paths.{Ended, Keeps}
 use Rattle.live_reads.specs.Sees.{Follows}
-use Rattle.live_reads.specs.declared.sight.Next.{Next}
-use Rattle.live_reads.specs.declared.sight.Next.TheVariants as nexts
+use Rattle.live_reads.specs.declared.prefix_match.Next.{Next}
+use Rattle.live_reads.specs.declared.prefix_match.Next.TheVariants as nexts
 use Rattle.live_layout.proofs.PageLaws.{filled_none}
 use Rattle.live_scans.specs.Scans.{HasRead}
 use Rattle.live_scans.specs.inner.Moments.{SeesMore, IsPassed, ReadsOn}
@@ -36,7 +36,7 @@ passed_since c id u v w key last is first p = record {
   reads = reads_since id u v w key (last + 1) [] first (subst (λ (z : ℕ). ReadsOn z v w key (last + 1) []) is p.reads);
 }
 
--- what is next on the way of a reader, which isn't a look-up
+-- what is next on the path of a reader, which isn't a look-up
 pub follow_ends : (look : Bool) (q : Ask) (v w : Seen) (key height : ℕ) (o : Option Next) → look ≡ false → Follows (Ended look q None) v w key height o → o ≡ Some nexts.Ends → w.client.seen ≡ v.client.seen
 follow_ends look q v w key height o is f e = subst (λ (b : Bool). Ended b q None v w) is (subst (λ (z : Option Next). Follows (Ended look q None) v w key height z) e f)
 

@@ -1,7 +1,7 @@
 -- At the check of a node a seat learns what the map has at all keys that begin like it.
 use Rattle.std.proofs.Common.{◌≡◌, ◌≢◌, ℕ, zero, suc, ◌*◌, ◌<◌, ◌≤◌, List, [], ◌∷◌, length, Option, Some, None, refl, sym, ap, ◌∙◌, subst, arith}
-use Rattle.node_table.specs.TableNode.{Child}
-use Rattle.node_table.specs.declared.child.Child.TheVariants.{Payload, Node as Below}
+use Rattle.spec_node.specs.TableNode.{Child}
+use Rattle.spec_node.specs.declared.child.Child.TheVariants.{Payload, Node as Below}
 use Rattle.spec_map.specs.Map.{lookup}
 use Rattle.share_rule.specs.History.{entries_of}
 use Rattle.word_book.specs.Book.{Book, Name, reads, none_joined}
@@ -12,14 +12,14 @@ use Rattle.live_nodes.specs.Plays as Plays
 use Rattle.live_nodes.specs.Plays.{Checks}
 use Rattle.live_nodes.specs.Calls.{MayCheck}
 use Rattle.live_nodes.specs.Rows.{last_saw, without_reads}
-use Rattle.live_law.specs.Levels.{up, digit, Covers, way, Shape, Spot, place_at}
+use Rattle.live_law.specs.Levels.{up, digit, Covers, bytes_above, Shape, Spot, place_at}
 use Rattle.live_law.specs.Views.{Watch, View, view_of, ask}
 use Rattle.live_law.specs.Tree.{IsMap, IsNow, IsUnder, LeadsDown}
 use Rattle.live_law.proofs.Histories.{sees_all}
 use Rattle.live_law.proofs.Looks.{with_view, met, is_now, is_current, same_watched, of_kind, at_leaf, at_inner}
 use Rattle.live_law.proofs.Plans.{digit-low, none_there, missed, same_name}
-use Rattle.live_reads.specs.Ways.{IsOpen, Keeps}
-use Rattle.live_reads.specs.Forks.{IsForked}
+use Rattle.live_reads.specs.Paths.{IsOpen, Keeps}
+use Rattle.live_reads.specs.Mismatches.{IsMismatched}
 use Rattle.live_reads.proofs.Views.{learned_keeps, may_check_open, open_checked, open_missed}
 use Rattle.live_scans.specs.inner.Moments.{HasUnder, IsRead, LearnsAll}
 
@@ -40,8 +40,8 @@ module _ (ns : List Node) (vs : List View) (v : View) (p : IsMap ns vs) (number 
       let j : ℕ = p.plan.home (suc h) (up (suc h) k) in
       let house = p.tree.housed (suc h) (up (suc h) k) leads.0 in
       let d = down b known above free_by in
-      let low_b : b.spot.number < length ns = subst (λ (z : ℕ). z < length ns) d.here (p.tree.housed d.level (way b.spot.shape d.level) (subst (λ (z : ℕ). 1 ≤ z) (sym d.here) d.some_node)).low in
-      let number_is : b.spot.number ≡ j = same_name p.plan ns p.nodes b.spot record { below_trunk = d.some_node; low = low_b; key = ap (λ (z : Shape). z.key) d.shaped; form = ap (λ (z : Shape). z.form) d.shaped } j leads.0 house.low (sym named ∙ leads.1) in
+      let low_b : b.spot.number < length ns = subst (λ (z : ℕ). z < length ns) d.here (p.tree.housed d.level (bytes_above b.spot.shape d.level) (subst (λ (z : ℕ). 1 ≤ z) (sym d.here) d.some_node)).low in
+      let number_is : b.spot.number ≡ j = same_name p.plan ns p.nodes b.spot record { below_root_word = d.some_node; low = low_b; key = ap (λ (z : Shape). z.key) d.shaped; form = ap (λ (z : Shape). z.form) d.shaped } j leads.0 house.low (sym named ∙ leads.1) in
       missed p.plan ns p.contents p.pairs p.tree h k j (omega (arith, l)) leads.0 refl (λ covers. never (subst (λ (z : Shape). Covers z k) (sym (ap p.plan.shape number_is) ∙ d.shaped) covers))
 
 pub node_whole : (caller id : ℕ) → caller ≡ id → (v : View) (a : Spot) → IsIn a v.met → (word : ℕ) (saw : List (ℕ × ℕ)) (m : ℕ) → word ≡ 4 * m → (others : List Read) → acts.Learns IsMap id v a.number word saw others (LearnsAll caller v a.number word saw)
@@ -123,7 +123,7 @@ module _ (v : Seen) (b : Book) (words : List Name) (t name key height : ℕ) (o 
         )
 
 -- The node above one that is watched is checked again.
-module _ (v : Seen) (b : Book) (words : List Name) (t name key height : ℕ) (f : IsForked v b words t name key height) (k : ℕ) (at_k : (place_at f.names.spot).key ≡ k) (caller : ℕ) where
+module _ (v : Seen) (b : Book) (words : List Name) (t name key height : ℕ) (f : IsMismatched v b words t name key height) (k : ℕ) (at_k : (place_at f.names.spot).key ≡ k) (caller : ℕ) where
   abbrev e : Spot
   e = f.names.spot
 

@@ -1,5 +1,5 @@
 pub mod Moments
-pub mod Forks
+pub mod Mismatches
 pub mod Steps
 pub mod Stops
 pub mod Nexts

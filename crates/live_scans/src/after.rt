@@ -1,7 +1,7 @@
 //! The child of a node that comes first from a byte on. A word of eight keys is searched at once.
 ghost use Rattle.std.specs.Prelude.{◌≡◌, ℕ, ◌+◌, ◌-◌, ◌*◌, ◌/◌, ◌%◌, ◌<◌, ◌≤◌, true, List, Some, None, IfSome};
 ghost use Rattle.std.specs.Int.{bit_at};
-ghost use Rattle.node_table.specs.TableNode.{TableNode};
+ghost use Rattle.spec_node.specs.TableNode.{TableNode};
 ghost use Rattle.live_layout.specs.Words.{at, lane, Stays};
 ghost use Rattle.live_layout.specs.ListCells.{count, key, first, HasList};
 ghost use Rattle.node_base.specs.Form.{limit};
@@ -14,7 +14,7 @@ use live_layout::form::room_of;
 use live_layout::lanes::lane_of;
 use live_layout::list::first_child;
 use live_layout::nearest::nearest;
-use live_layout::words::Cells;
+use live_layout::words::ReadWords;
 use node_base::base_node::NodeType;
 use std::simd::prelude::*;
 
@@ -81,7 +81,7 @@ fn placed(found: Option<(u8, usize)>, w: usize) -> Option<(u8, usize)>
 }
 
 // The first key of a list from this one on, and its place.
-fn first_place<S, R: Cells<S>>(
+fn first_place<S, R: ReadWords<S>>(
     cells: &R,
     room: usize,
     least: u8,
@@ -106,7 +106,7 @@ fn first_place<S, R: Cells<S>>(
 }
 
 /// The first child from a byte on of a node of this form: its byte and its word.
-pub fn child_after<S, R: Cells<S>>(
+pub fn child_after<S, R: ReadWords<S>>(
     cells: &R,
     form: NodeType,
     from: u8,
@@ -125,7 +125,7 @@ pub fn child_after<S, R: Cells<S>>(
 }
 
 // The first child from a byte on of a node that is a list. Its place is inside, which is tested rather than proved.
-fn list_after<S, R: Cells<S>>(
+fn list_after<S, R: ReadWords<S>>(
     cells: &R,
     form: NodeType,
     room: usize,

@@ -1,10 +1,10 @@
 //! The calls. Each is made by a guard of the map. It begins with an entry of its own in the history, and enters nothing more.
 ghost use Rattle.std.specs.Prelude.{◌≡◌, IfOk, IfSome, OnErr};
 ghost use Rattle.live_scans.specs.inner.Moments.{SeesMore};
-ghost use Rattle.live_reads.specs.Ways.{KnowsTrunk, Keeps};
+ghost use Rattle.live_reads.specs.Paths.{KnowsRootWord, Keeps};
 ghost use Rattle.live_scans.specs.Scans.{GaveUp};
 ghost use Rattle.live_scans.specs.Counts.{HasCounted, HasTested};
-ghost use Rattle.live_scans.specs.inner.Stops.{IsStand};
+ghost use Rattle.live_scans.specs.inner.Stops.{IsPosition};
 ghost use Rattle.live_scans.specs.inner.LeafSteps.{Counts};
 
 pub mod laws;
@@ -12,33 +12,33 @@ pub mod leaves;
 
 use crate::counts::leaves::step_on;
 use crate::scans::ceiling;
-use crate::seek::{Stand, start};
+use crate::seek::{Position, start};
 use live_growth::map::{Busy, Congee, Guard};
-use live_reads::way::{Nodes, Pass};
+use live_reads::path::{Nodes, Seat};
 
-// How many pairs there are, from a stand on. `None` where too many writers came in between.
-fn count_all(nodes: &Nodes, stand: Stand, pass: &mut Pass) -> Option<u128>
-    requires book { pass.old.book ≡ nodes.now }
-    requires trunk { KnowsTrunk pass.old.view }
-    requires stand { IsStand pass.old.view stand }
-    ensures told { (pass.new.book ≡ pass.old.book) × (pass.new.id ≡ pass.old.id)
-        × Keeps pass.old.view pass.new.view
-        × SeesMore pass.new.view.client.seen pass.old.id pass.old.view.client.seen
-        × IfSome result (Counts pass.old.id pass.old.view pass.new.view) }
+// How many pairs there are, from a position on. `None` where too many writers came in between.
+fn count_all(nodes: &Nodes, position: Position, seat: &mut Seat) -> Option<u128>
+    requires book { seat.old.book ≡ nodes.now }
+    requires root_word { KnowsRootWord seat.old.view }
+    requires position { IsPosition seat.old.view position }
+    ensures told { (seat.new.book ≡ seat.old.book) × (seat.new.id ≡ seat.old.id)
+        × Keeps seat.old.view seat.new.view
+        × SeesMore seat.new.view.client.seen seat.old.id seat.old.view.client.seen
+        × IfSome result (Counts seat.old.id seat.old.view seat.new.view) }
 {
     let mut leaf = [(0u64, 0u64); 256];
     let mut count = 0u128;
     let mut from = 0u64;
-    let mut at = Some(stand);
+    let mut at = Some(position);
     loop {
-        let stepped = step_on(nodes, at, from, &mut leaf, pass)?;
+        let stepped = step_on(nodes, at, from, &mut leaf, seat)?;
         let step = stepped.step;
         count += step.count as u128;
         if step.last == u64::MAX {
             return Some(count);
         }
         from = step.last + 1;
-        at = Some(stepped.stand);
+        at = Some(stepped.position);
     }
 }
 
@@ -50,10 +50,10 @@ pub fn count(map: &Congee, guard: &mut Guard) -> Result<u128, Busy>
     ensures counted { IfOk result (λ count. HasCounted guard.old count guard.new) }
     ensures busy { OnErr result (GaveUp guard.old guard.new) }
 {
-    let Some(stand) = start(&map.nodes, 0, &mut guard.pass) else {
+    let Some(position) = start(&map.nodes, 0, &mut guard.seat) else {
         return Err(Busy);
     };
-    let Some(count) = count_all(&map.nodes, stand, &mut guard.pass) else {
+    let Some(count) = count_all(&map.nodes, position, &mut guard.seat) else {
         return Err(Busy);
     };
     Ok(count)

@@ -2,21 +2,21 @@
 //! history, and enters nothing more.
 ghost use Rattle.std.specs.Prelude.{◌≡◌, ◌+◌, ◌^◌, IfOk, IfSome, OnErr};
 ghost use Rattle.live_scans.specs.inner.Moments.{SeesMore};
-ghost use Rattle.live_reads.specs.Ways.{Names, Keeps};
+ghost use Rattle.live_reads.specs.Paths.{Names, Keeps};
 ghost use Rattle.live_scans.specs.Scans.{GaveUp};
 ghost use Rattle.live_scans.specs.Floors.{HasBefore};
 ghost use Rattle.live_scans.specs.inner.Downs.{Finds};
 ghost use Rattle.live_scans.specs.inner.StopsDown.{IsStep};
 
+pub mod path;
 pub mod steps;
-pub mod way;
 
+use crate::floors::path::{Stop, seek};
 use crate::floors::steps::leaf_floor;
-use crate::floors::way::{Stop, seek};
 use crate::scans::begin_only;
 use crate::seek::start;
 use live_growth::map::{Busy, Congee, Guard};
-use live_reads::way::{Nodes, Pass};
+use live_reads::path::{Nodes, Seat};
 use std::marker::Brand;
 
 // How often a step is tried before a call is given up.
@@ -30,19 +30,19 @@ pub enum Step {
 }
 
 // One step from a key down, by the root's name. `None` where a writer came in between.
-fn try_step(nodes: &Nodes, root: u64, key: u64, pass: &mut Pass) -> Option<Step>
-    requires book { pass.old.book ≡ nodes.now }
-    requires root { Names pass.old.view root key 8 }
-    ensures told { (pass.new.book ≡ pass.old.book) × (pass.new.id ≡ pass.old.id)
-        × Keeps pass.old.view pass.new.view
-        × SeesMore pass.new.view.client.seen pass.old.id pass.old.view.client.seen
-        × IfSome result (IsStep pass.old.id pass.old.view pass.new.view key) }
+fn try_step(nodes: &Nodes, root: u64, key: u64, seat: &mut Seat) -> Option<Step>
+    requires book { seat.old.book ≡ nodes.now }
+    requires root { Names seat.old.view root key 8 }
+    ensures told { (seat.new.book ≡ seat.old.book) × (seat.new.id ≡ seat.old.id)
+        × Keeps seat.old.view seat.new.view
+        × SeesMore seat.new.view.client.seen seat.old.id seat.old.view.client.seen
+        × IfSome result (IsStep seat.old.id seat.old.view seat.new.view key) }
 {
-    match seek::<Brand>(nodes, root, key, pass)? {
+    match seek::<Brand>(nodes, root, key, seat)? {
         Stop::Gap(first) => Some(Step::Passed(first)),
         Stop::Leaf(name) => {
             let base = key - key % 256;
-            match leaf_floor::<Brand>(nodes, name, base, (key % 256) as u8, pass)? {
+            match leaf_floor::<Brand>(nodes, name, base, (key % 256) as u8, seat)? {
                 Some((found, value)) => Some(Step::Found(found, value)),
                 None => Some(Step::Passed(base)),
             }
@@ -51,16 +51,16 @@ fn try_step(nodes: &Nodes, root: u64, key: u64, pass: &mut Pass) -> Option<Step>
 }
 
 // One step from a key down, by the root's name, in some tries. `None` where too many writers came in between.
-fn step_down(nodes: &Nodes, root: u64, key: u64, pass: &mut Pass) -> Option<Step>
-    requires book { pass.old.book ≡ nodes.now }
-    requires root { Names pass.old.view root key 8 }
-    ensures told { (pass.new.book ≡ pass.old.book) × (pass.new.id ≡ pass.old.id)
-        × Keeps pass.old.view pass.new.view
-        × SeesMore pass.new.view.client.seen pass.old.id pass.old.view.client.seen
-        × IfSome result (IsStep pass.old.id pass.old.view pass.new.view key) }
+fn step_down(nodes: &Nodes, root: u64, key: u64, seat: &mut Seat) -> Option<Step>
+    requires book { seat.old.book ≡ nodes.now }
+    requires root { Names seat.old.view root key 8 }
+    ensures told { (seat.new.book ≡ seat.old.book) × (seat.new.id ≡ seat.old.id)
+        × Keeps seat.old.view seat.new.view
+        × SeesMore seat.new.view.client.seen seat.old.id seat.old.view.client.seen
+        × IfSome result (IsStep seat.old.id seat.old.view seat.new.view key) }
 {
     for _ in 0..TRIES {
-        if let Some(step) = try_step(nodes, root, key, pass) {
+        if let Some(step) = try_step(nodes, root, key, seat) {
             return Some(step);
         }
     }
@@ -68,18 +68,18 @@ fn step_down(nodes: &Nodes, root: u64, key: u64, pass: &mut Pass) -> Option<Step
 }
 
 /// The pair with the greatest key that is at most this one, or none. `None` where too many writers came in between.
-fn find_before(nodes: &Nodes, root: u64, key: u64, pass: &mut Pass) -> Option<Option<(u64, u64)>>
-    requires book { pass.old.book ≡ nodes.now }
-    requires root { Names pass.old.view root key 8 }
-    ensures told { (pass.new.book ≡ pass.old.book) × (pass.new.id ≡ pass.old.id)
-        × Keeps pass.old.view pass.new.view
-        × SeesMore pass.new.view.client.seen pass.old.id pass.old.view.client.seen
-        × IfSome result (λ found. Finds pass.old.id pass.old.view pass.new.view
+fn find_before(nodes: &Nodes, root: u64, key: u64, seat: &mut Seat) -> Option<Option<(u64, u64)>>
+    requires book { seat.old.book ≡ nodes.now }
+    requires root { Names seat.old.view root key 8 }
+    ensures told { (seat.new.book ≡ seat.old.book) × (seat.new.id ≡ seat.old.id)
+        × Keeps seat.old.view seat.new.view
+        × SeesMore seat.new.view.client.seen seat.old.id seat.old.view.client.seen
+        × IfSome result (λ found. Finds seat.old.id seat.old.view seat.new.view
         0 (key + 1) found) }
 {
     let mut from = key;
     loop {
-        match step_down(nodes, root, from, pass)? {
+        match step_down(nodes, root, from, seat)? {
             Step::Found(found, value) => return Some(Some((found, value))),
             Step::Passed(first) => {
                 if first == 0 {
@@ -98,10 +98,10 @@ pub fn floor(map: &Congee, guard: &mut Guard, key: u64) -> Result<Option<(u64, u
     ensures before { IfOk result (λ found. HasBefore guard.old (key + 1) found guard.new) }
     ensures busy { OnErr result (GaveUp guard.old guard.new) }
 {
-    let Some(stand) = start(&map.nodes, key, &mut guard.pass) else {
+    let Some(position) = start(&map.nodes, key, &mut guard.seat) else {
         return Err(Busy);
     };
-    let Some(found) = find_before(&map.nodes, stand.name, key, &mut guard.pass) else {
+    let Some(found) = find_before(&map.nodes, position.name, key, &mut guard.seat) else {
         return Err(Busy);
     };
     Ok(found)

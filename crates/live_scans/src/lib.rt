@@ -13,11 +13,11 @@
 pub mod after;
 pub mod counts;
 pub mod floors;
-pub mod fork;
 pub mod keys;
 pub mod laws;
-pub mod lesson;
+pub mod mismatch;
 pub mod next;
+pub mod on_check;
 pub mod page;
 pub mod scans;
 pub mod seek;

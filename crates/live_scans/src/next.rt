@@ -1,23 +1,23 @@
-//! The way on from a key below a node: to the next node, or past keys that are absent.
+//! The path on from a key below a node: to the next node, or past keys that are absent.
 ghost use Rattle.std.specs.Prelude.{◌≡◌, ℕ, ◌+◌, ◌-◌, ◌*◌, ◌^◌, ◌%◌, ◌<◌, ◌≤◌, true, false, Some, IfSome, IsTrue};
-ghost use Rattle.node_table.specs.declared.child.Child.TheVariants.{Node};
+ghost use Rattle.spec_node.specs.declared.child.Child.TheVariants.{Node};
 ghost use Rattle.live_layout.specs.Encodes.{IsWord};
 ghost use Rattle.live_law.specs.Levels.{up, digit};
-ghost use Rattle.live_reads.specs.Ways.{Names, Sights, Keeps};
-ghost use Rattle.live_reads.specs.Forks.{first_number};
+ghost use Rattle.live_reads.specs.Paths.{Names, Sights, Keeps};
+ghost use Rattle.live_reads.specs.Mismatches.{first_number};
 ghost use Rattle.live_scans.specs.inner.Moments.{SeesMore, HasNone};
 ghost use Rattle.live_scans.specs.inner.Nexts.{IsNear, IsNext, HasHead, IsOutside, Chooses, Turns};
 
 use crate::after::child_after;
 use crate::keys::{floor_of, last_of, upper};
-use crate::lesson::Whole;
-use live_law::law::{Above, Asks, Below, Head, Levels, Look, Mine};
+use crate::on_check::Whole;
+use live_law::law::{Above, Asks, Below, Head, Look, MapLaw, MapView};
 use live_layout::form::{form_below, slot_below};
-use live_layout::words::Cells;
+use live_layout::words::ReadWords;
 use live_nodes::node;
-use live_nodes::rows::Row;
-use live_reads::sight::{Sight, compare, enter};
-use live_reads::way::{Cell, Nodes, Opened, Pass, byte_at, open};
+use live_nodes::rows::SharedWords;
+use live_reads::path::{Cell, Nodes, Opened, Seat, byte_at, open};
+use live_reads::prefix_match::{PrefixMatch, compare, enter};
 use std::marker::Brand;
 
 /// An open node, and its child nearest to a key's byte: the byte and the word.
@@ -36,7 +36,7 @@ pub struct Lower<'a> {
     pub here: Opened<'a>,
 }
 
-/// A node that is next on the way of a reader, its height, and the first of its keys that isn't passed.
+/// A node that is next on the path of a reader, its height, and the first of its keys that isn't passed.
 #[derive(Clone, Copy, Debug, PartialEq, Eq)]
 pub struct Child {
     pub name: u64,
@@ -57,20 +57,20 @@ fn open_near<'a>(
     name: u64,
     height: usize,
     key: u64,
-    pass: &mut Pass,
+    seat: &mut Seat,
 ) -> Option<Near<'a>>
-    requires book { pass.old.book ≡ nodes.now }
-    requires named { Names pass.old.view name key height }
+    requires book { seat.old.book ≡ nodes.now }
+    requires named { Names seat.old.view name key height }
     requires height { (2 ≤ height) × (height ≤ 8) }
-    ensures told { (pass.new.book ≡ pass.old.book) × (pass.new.id ≡ pass.old.id)
-        × Keeps pass.old.view pass.new.view
-        × (pass.new.view.client.seen ≡ pass.old.view.client.seen) }
+    ensures told { (seat.new.book ≡ seat.old.book) × (seat.new.id ≡ seat.old.id)
+        × Keeps seat.old.view seat.new.view
+        × (seat.new.view.client.seen ≡ seat.old.view.client.seen) }
     ensures near { IfSome result (λ n. let here = n.here
-        in IsNear pass.new.view pass.new.book here.words.now here.taken name key height n.found) }
+        in IsNear seat.new.view seat.new.book here.words.now here.taken name key height n.found) }
 {
-    let here = enter(nodes, name, height, key, pass)?;
-    let row = Row { words: here.words };
-    let found = child_after(&row, form_below(name), byte_at(key, height), pass);
+    let here = enter(nodes, name, height, key, seat)?;
+    let row = SharedWords { words: here.words };
+    let found = child_after(&row, form_below(name), byte_at(key, height), seat);
     Some(Near { here, found })
 }
 
@@ -83,23 +83,23 @@ fn meet_under<A: Asks>(
     byte: u8,
     word: u64,
     to: u64,
-    pass: &mut Pass,
+    seat: &mut Seat,
 ) -> bool
-    requires asks { (A.ask.key ≡ to) × (A.ask.caller ≡ pass.old.id) }
+    requires asks { (A.ask.key ≡ to) × (A.ask.caller ≡ seat.old.id) }
     requires to { up (height - 1) to ≡ 256 * up height key + byte }
-    requires near { IsNear pass.old.view pass.old.book here.words.now here.taken name key height
+    requires near { IsNear seat.old.view seat.old.book here.words.now here.taken name key height
         (Some (byte, word)) }
     requires height { (2 ≤ height) × (height ≤ 8) }
-    ensures told { (pass.new.book ≡ pass.old.book) × (pass.new.id ≡ pass.old.id)
-        × Keeps pass.old.view pass.new.view
-        × (pass.new.view.client.seen ≡ pass.old.view.client.seen) }
-    ensures near { IsTrue result → IsNear pass.new.view pass.new.book here.entry.words.now here.entry.taken
+    ensures told { (seat.new.book ≡ seat.old.book) × (seat.new.id ≡ seat.old.id)
+        × Keeps seat.old.view seat.new.view
+        × (seat.new.view.client.seen ≡ seat.old.view.client.seen) }
+    ensures near { IsTrue result → IsNear seat.new.view seat.new.book here.entry.words.now here.entry.taken
         name key height (Some (byte, word)) }
-    ensures met { IsTrue result → ((s : ℕ) × IsWord word (Node s) × Sights pass.new.view s) }
+    ensures met { IsTrue result → ((s : ℕ) × IsWord word (Node s) × Sights seat.new.view s) }
 {
     let _ = to;
     let Opened { words, taken } = here;
-    node::check::<Mine, Levels, Look<A>>(&words[0], taken, pass)
+    node::check::<MapView, MapLaw, Look<A>>(&words[0], taken, seat)
 }
 
 /// Opens a child of an open node, and watches it there. `None` where a writer came in between.
@@ -111,40 +111,40 @@ fn watch_next<'a, N: Above>(
     key: u64,
     byte: u8,
     word: u64,
-    pass: &mut Pass,
+    seat: &mut Seat,
 ) -> Option<Lower<'a>>
-    requires book { pass.old.book ≡ nodes.now }
-    requires near { IsNear pass.old.view pass.old.book here.words.now here.taken name key height
+    requires book { seat.old.book ≡ nodes.now }
+    requires near { IsNear seat.old.view seat.old.book here.words.now here.taken name key height
         (Some (byte, word)) }
     requires height { (2 ≤ height) × (height ≤ 8) }
-    requires met { (s : ℕ) × IsWord word (Node s) × Sights pass.old.view s }
-    requires above { (N.number ≡ first_number pass.old.view.reads) × (N.word ≡ Some here.taken) }
-    ensures told { (pass.new.book ≡ pass.old.book) × (pass.new.id ≡ pass.old.id)
-        × Keeps pass.old.view pass.new.view
-        × (pass.new.view.client.seen ≡ pass.old.view.client.seen) }
+    requires met { (s : ℕ) × IsWord word (Node s) × Sights seat.old.view s }
+    requires above { (N.number ≡ first_number seat.old.view.reads) × (N.word ≡ Some here.taken) }
+    ensures told { (seat.new.book ≡ seat.old.book) × (seat.new.id ≡ seat.old.id)
+        × Keeps seat.old.view seat.new.view
+        × (seat.new.view.client.seen ≡ seat.old.view.client.seen) }
     ensures next { IfSome result (λ l. let there = l.here
-        in IsNext pass.new.view pass.new.book here.entry.words.now here.entry.taken name key height byte word
+        in IsNext seat.new.view seat.new.book here.entry.words.now here.entry.taken name key height byte word
         l.name l.height l.first there.words.now there.taken) }
 {
     let below = slot_below(word);
     if below == name {
         return None;
     }
-    let there = open(nodes, below, pass)?;
-    let row = Row { words: there.words };
-    let head = row.word(0, pass);
-    if !node::check::<Mine, Levels, Below<N>>(&there.words[0], there.taken, pass) {
+    let there = open(nodes, below, seat)?;
+    let row = SharedWords { words: there.words };
+    let head = row.word(0, seat);
+    if !node::check::<MapView, MapLaw, Below<N>>(&there.words[0], there.taken, seat) {
         return None;
     }
     let first = floor_of(head);
     match compare(head, first) {
-        Sight::Covers(height) => Some(Lower {
+        PrefixMatch::Covers(height) => Some(Lower {
             name: below,
             height,
             first,
             here: there,
         }),
-        Sight::Leaves(_, _) => None,
+        PrefixMatch::Leaves(_, _) => None,
     }
 }
 
@@ -157,35 +157,35 @@ fn is_still<A: Asks>(
     byte: u8,
     word: u64,
     lower: Lower<'_>,
-    pass: &mut Pass,
+    seat: &mut Seat,
 ) -> bool
-    requires asks { A.ask.caller ≡ pass.old.id }
+    requires asks { A.ask.caller ≡ seat.old.id }
     requires height { (2 ≤ height) × (height ≤ 8) }
-    requires next { IsNext pass.old.view pass.old.book here.words.now here.taken name key height byte word
+    requires next { IsNext seat.old.view seat.old.book here.words.now here.taken name key height byte word
         lower.name lower.height lower.first lower.here.words.now lower.here.taken }
-    ensures told { (pass.new.book ≡ pass.old.book) × (pass.new.id ≡ pass.old.id)
-        × Keeps pass.old.view pass.new.view
-        × SeesMore pass.new.view.client.seen pass.old.id pass.old.view.client.seen }
-    ensures none { IsTrue result → HasNone pass.old.id pass.old.view pass.new.view
+    ensures told { (seat.new.book ≡ seat.old.book) × (seat.new.id ≡ seat.old.id)
+        × Keeps seat.old.view seat.new.view
+        × SeesMore seat.new.view.client.seen seat.old.id seat.old.view.client.seen }
+    ensures none { IsTrue result → HasNone seat.old.id seat.old.view seat.new.view
         (IsOutside height key byte lower.entry.height lower.entry.first) }
-    ensures head { IsTrue result → HasHead pass.new.view pass.new.book lower.entry.name lower.entry.height
+    ensures head { IsTrue result → HasHead seat.new.view seat.new.book lower.entry.name lower.entry.height
         lower.entry.first lower.entry.here.words.now lower.entry.here.taken }
 {
     let Opened { words, taken } = here;
-    node::check::<Mine, Levels, Whole<A>>(&words[0], taken, pass)
+    node::check::<MapView, MapLaw, Whole<A>>(&words[0], taken, seat)
 }
 
 /// Whether a node is still what its head says.
-fn arrive(lower: Lower<'_>, pass: &mut Pass) -> bool
-    requires head { HasHead pass.old.view pass.old.book lower.name lower.height lower.first
+fn arrive(lower: Lower<'_>, seat: &mut Seat) -> bool
+    requires head { HasHead seat.old.view seat.old.book lower.name lower.height lower.first
         lower.here.words.now lower.here.taken }
-    ensures told { (pass.new.book ≡ pass.old.book) × (pass.new.id ≡ pass.old.id)
-        × Keeps pass.old.view pass.new.view
-        × (pass.new.view.client.seen ≡ pass.old.view.client.seen) }
-    ensures named { IsTrue result → Names pass.new.view lower.entry.name lower.entry.first lower.entry.height }
+    ensures told { (seat.new.book ≡ seat.old.book) × (seat.new.id ≡ seat.old.id)
+        × Keeps seat.old.view seat.new.view
+        × (seat.new.view.client.seen ≡ seat.old.view.client.seen) }
+    ensures named { IsTrue result → Names seat.new.view lower.entry.name lower.entry.first lower.entry.height }
 {
     let Opened { words, taken } = lower.here;
-    node::check::<Mine, Levels, Head>(&words[0], taken, pass)
+    node::check::<MapView, MapLaw, Head>(&words[0], taken, seat)
 }
 
 // Where to go on: at the node below, if it has this key or a later one, or behind its byte.
@@ -239,27 +239,27 @@ fn beside<A: Asks>(
     key: u64,
     byte: u8,
     word: u64,
-    pass: &mut Pass,
+    seat: &mut Seat,
 ) -> Option<Turn>
-    requires book { pass.old.book ≡ nodes.now }
-    requires asks { A.ask.caller ≡ pass.old.id }
-    requires near { IsNear pass.old.view pass.old.book here.words.now here.taken name key height
+    requires book { seat.old.book ≡ nodes.now }
+    requires asks { A.ask.caller ≡ seat.old.id }
+    requires near { IsNear seat.old.view seat.old.book here.words.now here.taken name key height
         (Some (byte, word)) }
     requires height { (2 ≤ height) × (height ≤ 8) }
-    ensures told { (pass.new.book ≡ pass.old.book) × (pass.new.id ≡ pass.old.id)
-        × Keeps pass.old.view pass.new.view
-        × SeesMore pass.new.view.client.seen pass.old.id pass.old.view.client.seen
-        × Turns pass.old.id pass.old.view pass.new.view key height result }
+    ensures told { (seat.new.book ≡ seat.old.book) × (seat.new.id ≡ seat.old.id)
+        × Keeps seat.old.view seat.new.view
+        × SeesMore seat.new.view.client.seen seat.old.id seat.old.view.client.seen
+        × Turns seat.old.id seat.old.view seat.new.view key height result }
 {
     let to = last_of(key, height, byte);
-    if !meet_under::<Brand>(here, name, height, key, byte, word, to, pass) {
+    if !meet_under::<Brand>(here, name, height, key, byte, word, to, seat) {
         return None;
     }
-    let lower = watch_next::<Brand>(nodes, here, name, height, key, byte, word, pass)?;
-    if !is_still::<A>(here, name, height, key, byte, word, lower, pass) {
+    let lower = watch_next::<Brand>(nodes, here, name, height, key, byte, word, seat)?;
+    if !is_still::<A>(here, name, height, key, byte, word, lower, seat) {
         return None;
     }
-    if !arrive(lower, pass) {
+    if !arrive(lower, seat) {
         return None;
     }
     choose(key, height, byte, to, lower)
@@ -271,18 +271,18 @@ fn behind<A: Asks>(
     name: u64,
     height: usize,
     key: u64,
-    pass: &mut Pass,
+    seat: &mut Seat,
 ) -> Option<Turn>
-    requires asks { A.ask.caller ≡ pass.old.id }
-    requires near { IsNear pass.old.view pass.old.book here.words.now here.taken name key height None }
+    requires asks { A.ask.caller ≡ seat.old.id }
+    requires near { IsNear seat.old.view seat.old.book here.words.now here.taken name key height None }
     requires height { (2 ≤ height) × (height ≤ 8) }
-    ensures told { (pass.new.book ≡ pass.old.book) × (pass.new.id ≡ pass.old.id)
-        × Keeps pass.old.view pass.new.view
-        × SeesMore pass.new.view.client.seen pass.old.id pass.old.view.client.seen
-        × Turns pass.old.id pass.old.view pass.new.view key height result }
+    ensures told { (seat.new.book ≡ seat.old.book) × (seat.new.id ≡ seat.old.id)
+        × Keeps seat.old.view seat.new.view
+        × SeesMore seat.new.view.client.seen seat.old.id seat.old.view.client.seen
+        × Turns seat.old.id seat.old.view seat.new.view key height result }
 {
     let Opened { words, taken } = here;
-    if !node::check::<Mine, Levels, Whole<A>>(&words[0], taken, pass) {
+    if !node::check::<MapView, MapLaw, Whole<A>>(&words[0], taken, seat) {
         return None;
     }
     let last = last_of(key, height, 255);
@@ -298,20 +298,20 @@ pub fn next_turn<A: Asks>(
     name: u64,
     height: usize,
     key: u64,
-    pass: &mut Pass,
+    seat: &mut Seat,
 ) -> Option<Turn>
-    requires book { pass.old.book ≡ nodes.now }
-    requires asks { A.ask.caller ≡ pass.old.id }
-    requires named { Names pass.old.view name key height }
+    requires book { seat.old.book ≡ nodes.now }
+    requires asks { A.ask.caller ≡ seat.old.id }
+    requires named { Names seat.old.view name key height }
     requires height { (2 ≤ height) × (height ≤ 8) }
-    ensures told { (pass.new.book ≡ pass.old.book) × (pass.new.id ≡ pass.old.id)
-        × Keeps pass.old.view pass.new.view
-        × SeesMore pass.new.view.client.seen pass.old.id pass.old.view.client.seen
-        × Turns pass.old.id pass.old.view pass.new.view key height result }
+    ensures told { (seat.new.book ≡ seat.old.book) × (seat.new.id ≡ seat.old.id)
+        × Keeps seat.old.view seat.new.view
+        × SeesMore seat.new.view.client.seen seat.old.id seat.old.view.client.seen
+        × Turns seat.old.id seat.old.view seat.new.view key height result }
 {
-    let near = open_near(nodes, name, height, key, pass)?;
+    let near = open_near(nodes, name, height, key, seat)?;
     match near.found {
-        None => behind::<A>(near.here, name, height, key, pass),
-        Some((byte, word)) => beside::<A>(nodes, near.here, name, height, key, byte, word, pass),
+        None => behind::<A>(near.here, name, height, key, seat),
+        Some((byte, word)) => beside::<A>(nodes, near.here, name, height, key, byte, word, seat),
     }
 }

@@ -2,14 +2,14 @@
 ghost use Rattle.std.specs.Prelude.{◌≡◌, ◌≢◌, ◌+◌, ◌%◌, ◌^◌, ◌<◌, ◌≤◌, length, take, IfSome};
 ghost use Rattle.live_scans.specs.inner.Moments.{SeesMore};
 ghost use Rattle.live_layout.specs.Page.{pairs_of};
-ghost use Rattle.live_reads.specs.Ways.{KnowsTrunk, Keeps};
+ghost use Rattle.live_reads.specs.Paths.{KnowsRootWord, Keeps};
 ghost use Rattle.live_scans.specs.inner.Steps.{IsStep, IsPage};
-ghost use Rattle.live_scans.specs.inner.Stops.{IsStand};
+ghost use Rattle.live_scans.specs.inner.Stops.{IsPosition};
 
-use crate::seek::{Reach, Stand, begin, seek_on};
+use crate::seek::{Position, Reach, begin, seek_on};
 use crate::steps::leaf_page;
 use live_layout::page::{Part, RangeEntry};
-use live_reads::way::{Nodes, Pass};
+use live_reads::path::{Nodes, Seat};
 use std::marker::Brand;
 
 /// How often a step is tried before a page is given up.
@@ -42,43 +42,43 @@ fn part_of(key: u64, limit: u64) -> Part
 #[derive(Clone, Copy, Debug, PartialEq, Eq)]
 struct Stepped {
     step: Step,
-    stand: Stand,
+    position: Position,
 }
 
 // One step from a key on: a part of a leaf is written into the buffer, or keys are passed that are absent. `None` where a writer
 // came in between.
 fn try_step<P: RangeEntry>(
     nodes: &Nodes,
-    stand: Option<Stand>,
+    position: Option<Position>,
     key: u64,
     limit: u64,
     buffer: &mut [P],
     start: usize,
-    pass: &mut Pass,
+    seat: &mut Seat,
 ) -> Option<Stepped>
-    requires book { pass.old.book ≡ nodes.now }
-    requires trunk { KnowsTrunk pass.old.view }
-    requires stand { IfSome stand (IsStand pass.old.view) }
+    requires book { seat.old.book ≡ nodes.now }
+    requires root_word { KnowsRootWord seat.old.view }
+    requires position { IfSome position (IsPosition seat.old.view) }
     requires order { key ≤ limit }
     requires start { start < length buffer.old }
     ensures before { take start (pairs_of P.pair buffer.new)
         ≡ take start (pairs_of P.pair buffer.old) }
-    ensures told { (pass.new.book ≡ pass.old.book) × (pass.new.id ≡ pass.old.id)
-        × Keeps pass.old.view pass.new.view
-        × SeesMore pass.new.view.client.seen pass.old.id pass.old.view.client.seen
-        × IfSome result (λ s. IsStand pass.new.view s.stand
-        × IsStep pass.old.id pass.old.view pass.new.view
+    ensures told { (seat.new.book ≡ seat.old.book) × (seat.new.id ≡ seat.old.id)
+        × Keeps seat.old.view seat.new.view
+        × SeesMore seat.new.view.client.seen seat.old.id seat.old.view.client.seen
+        × IfSome result (λ s. IsPosition seat.new.view s.position
+        × IsStep seat.old.id seat.old.view seat.new.view
         key limit start (pairs_of P.pair buffer.new) s.step.count s.step.last) }
 {
-    let at = begin(nodes, stand, key, pass)?;
-    let sought = seek_on::<Brand>(nodes, at, pass)?;
+    let at = begin(nodes, position, key, seat)?;
+    let sought = seek_on::<Brand>(nodes, at, seat)?;
     match sought.reach {
         Reach::Past(last) => Some(Stepped {
             step: Step {
                 count: start,
                 last: last.min(limit),
             },
-            stand: sought.stand,
+            position: sought.position,
         }),
         Reach::Leaf(name, first) => {
             if first > limit {
@@ -87,17 +87,17 @@ fn try_step<P: RangeEntry>(
                         count: start,
                         last: limit,
                     },
-                    stand: sought.stand,
+                    position: sought.position,
                 });
             }
             let part = part_of(first, limit);
-            let filled = leaf_page::<Brand, P>(nodes, name, part, buffer, start, pass)?;
+            let filled = leaf_page::<Brand, P>(nodes, name, part, buffer, start, seat)?;
             Some(Stepped {
                 step: Step {
                     count: filled.count,
                     last: part.base + filled.reached as u64,
                 },
-                stand: sought.stand,
+                position: sought.position,
             })
         }
     }
@@ -107,30 +107,30 @@ fn try_step<P: RangeEntry>(
 // passed that are absent. `None` where too many writers came in between.
 fn read_on<P: RangeEntry>(
     nodes: &Nodes,
-    stand: Option<Stand>,
+    position: Option<Position>,
     key: u64,
     limit: u64,
     buffer: &mut [P],
     start: usize,
-    pass: &mut Pass,
+    seat: &mut Seat,
 ) -> Option<Stepped>
-    requires book { pass.old.book ≡ nodes.now }
-    requires trunk { KnowsTrunk pass.old.view }
-    requires stand { IfSome stand (IsStand pass.old.view) }
+    requires book { seat.old.book ≡ nodes.now }
+    requires root_word { KnowsRootWord seat.old.view }
+    requires position { IfSome position (IsPosition seat.old.view) }
     requires order { key ≤ limit }
     requires start { start < length buffer.old }
     ensures before { take start (pairs_of P.pair buffer.new)
         ≡ take start (pairs_of P.pair buffer.old) }
-    ensures told { (pass.new.book ≡ pass.old.book) × (pass.new.id ≡ pass.old.id)
-        × Keeps pass.old.view pass.new.view
-        × SeesMore pass.new.view.client.seen pass.old.id pass.old.view.client.seen
-        × IfSome result (λ s. IsStand pass.new.view s.stand
-        × IsStep pass.old.id pass.old.view pass.new.view
+    ensures told { (seat.new.book ≡ seat.old.book) × (seat.new.id ≡ seat.old.id)
+        × Keeps seat.old.view seat.new.view
+        × SeesMore seat.new.view.client.seen seat.old.id seat.old.view.client.seen
+        × IfSome result (λ s. IsPosition seat.new.view s.position
+        × IsStep seat.old.id seat.old.view seat.new.view
         key limit start (pairs_of P.pair buffer.new) s.step.count s.step.last) }
 {
-    let mut at = stand;
+    let mut at = position;
     for _ in 0..TRIES {
-        if let Some(stepped) = try_step(nodes, at, key, limit, buffer, start, pass) {
+        if let Some(stepped) = try_step(nodes, at, key, limit, buffer, start, seat) {
             return Some(stepped);
         }
         at = None;
@@ -138,32 +138,32 @@ fn read_on<P: RangeEntry>(
     None
 }
 
-/// The pairs with keys from this one up to a limit, ascending, until the buffer is full. It goes on from a stand. `None` where
+/// The pairs with keys from this one up to a limit, ascending, until the buffer is full. It goes on from a position. `None` where
 /// too many writers came in between.
 pub fn page<P: RangeEntry>(
     nodes: &Nodes,
-    stand: Stand,
+    position: Position,
     key: u64,
     limit: u64,
     buffer: &mut [P],
-    pass: &mut Pass,
+    seat: &mut Seat,
 ) -> Option<Step>
-    requires book { pass.old.book ≡ nodes.now }
-    requires trunk { KnowsTrunk pass.old.view }
-    requires stand { IsStand pass.old.view stand }
+    requires book { seat.old.book ≡ nodes.now }
+    requires root_word { KnowsRootWord seat.old.view }
+    requires position { IsPosition seat.old.view position }
     requires order { key ≤ limit }
     requires room { 0 < length buffer.old }
-    ensures told { (pass.new.book ≡ pass.old.book) × (pass.new.id ≡ pass.old.id)
-        × Keeps pass.old.view pass.new.view
-        × SeesMore pass.new.view.client.seen pass.old.id pass.old.view.client.seen
-        × IfSome result (λ s. IsPage pass.old.id pass.old.view pass.new.view
+    ensures told { (seat.new.book ≡ seat.old.book) × (seat.new.id ≡ seat.old.id)
+        × Keeps seat.old.view seat.new.view
+        × SeesMore seat.new.view.client.seen seat.old.id seat.old.view.client.seen
+        × IfSome result (λ s. IsPage seat.old.id seat.old.view seat.new.view
         key limit (pairs_of P.pair buffer.new) s.count s.last) }
 {
     let mut count = 0;
     let mut from = key;
-    let mut at = Some(stand);
+    let mut at = Some(position);
     loop {
-        let stepped = read_on(nodes, at, from, limit, buffer, count, pass)?;
+        let stepped = read_on(nodes, at, from, limit, buffer, count, seat)?;
         let step = stepped.step;
         if step.count == buffer.len() {
             return Some(step);
@@ -173,6 +173,6 @@ pub fn page<P: RangeEntry>(
         }
         count = step.count;
         from = step.last + 1;
-        at = Some(stepped.stand);
+        at = Some(stepped.position);
     }
 }

@@ -16,7 +16,7 @@ pub fn begin_only(map: &Congee, guard: &mut Guard) -> Result<(), Busy>
     ensures begun { IfOk result (λ _. HasBegun guard.old guard.new) }
     ensures busy { OnErr result (guard.new ≡ guard.old) }
 {
-    let Some(_) = start(&map.nodes, 0, &mut guard.pass) else {
+    let Some(_) = start(&map.nodes, 0, &mut guard.seat) else {
         return Err(Busy);
     };
     Ok(())
@@ -46,10 +46,10 @@ pub fn range_inclusive<P: RangeEntry>(
         begin_only(map, guard)?;
         return Ok(0);
     }
-    let Some(stand) = start(&map.nodes, first, &mut guard.pass) else {
+    let Some(position) = start(&map.nodes, first, &mut guard.seat) else {
         return Err(Busy);
     };
-    let Some(step) = page(&map.nodes, stand, first, last, buffer, &mut guard.pass) else {
+    let Some(step) = page(&map.nodes, position, first, last, buffer, &mut guard.seat) else {
         return Err(Busy);
     };
     Ok(step.count)

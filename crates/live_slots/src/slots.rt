@@ -406,7 +406,8 @@ impl<V: Drop> Slots<V> {
         self.at(index_of(ticket) as usize)
     }
 
-    /// The value of a ticket, in its slot. `None` if the ticket is retired.
+    /// The value of a ticket, in its slot. `None` if the ticket is retired, if the slot counts as many readers as it can, or if
+    /// its word changed at each of 1,000 tries.
     pub fn lend(&self, ticket: u64) -> Option<Lent<'_, V>>
         ensures lent { IfSome result (λ lent. (lent.table ≡ self.now) × (lent.ticket ≡ ticket)) }
     {

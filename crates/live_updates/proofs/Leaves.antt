@@ -2,7 +2,7 @@
 use Rattle.std.proofs.Common.{◌≡◌, ◌≢◌, ℕ, zero, suc, ◌+◌, ◌*◌, ◌/◌, ◌<◌, ◌≤◌, List, [], ◌∷◌, ◌++◌, length, Option, Some, None, refl, sym, ap, ◌∙◌, subst, arith}
 use mathlib.Core.Logic.{dite}
 use native.Mathlib.Decide.{ℕ_discrete}
-use Rattle.node_table.specs.TableNode.{TableNode, Child}
+use Rattle.spec_node.specs.TableNode.{TableNode, Child}
 use Rattle.spec_map.specs.Map.{Pairs, lookup, with_answer}
 use Rattle.share_rule.specs.History.{Entry}
 use Rattle.share_rule.specs.inner.Rule.{HasSeen}
@@ -57,8 +57,7 @@ leaf_updates u law id by v a c is leaf covers word m even d long changes ns vs p
     let kn = p.each_view id v seat in
     let l : IsLocked p.plan ns p.contents id a c = (its_own id v (locked a c ∷ []) is ns vs p seat).0 in
     let s = l.met.spot in
-    let as_long : length d ≡ length (node ns k).content = long ∙ sym (p.nodes.long k s.below_trunk s.low ∙ ap words_of s.form) in
-    let no_maker : 1 ≤ k → p.plan.maker k ≡ None = λ _. l.met.linked in
+    let as_long : length d ≡ length (node ns k).content = long ∙ sym (p.nodes.long k s.below_root_word s.low ∙ ap words_of s.form) in
     let at_k = home_locked p.plan ns p.contents id a c l in
     let old = current_at p.plan ns p.contents p.pairs id a c p.tree l in
     let top_is : up 1 u.key ≡ a.shape.top = subst (λ (h : ℕ). up h u.key ≡ a.shape.top) leaf covers in
@@ -78,8 +77,8 @@ leaf_updates u law id by v a c is leaf covers word m even d long changes ns vs p
     } in
     let home_1 : p.plan.home 1 (u.key / 256) ≡ k = ap (p.plan.home 1) top_is ∙ (ap (λ (h : ℕ). p.plan.home h a.shape.top) (sym leaf) ∙ l.current) in
     let cs' : ℕ → Content = put_at p.contents k d in
-    let tree = tree_stays p.plan ns k (freed id v k word d ns vs p seat low held rises as_long no_maker) low refl as_long p.contents cs' p.pairs pairs p.tree
-    (λ e. absurd (let n = s.below_trunk in omega (arith, e, n)))
+    let tree = tree_stays p.plan ns k (freed id v k word d ns vs p seat low held rises as_long) low refl as_long p.contents cs' p.pairs pairs p.tree
+    (λ e. absurd (let n = s.below_root_word in omega (arith, e, n)))
     (λ some_node here. subst (λ (z : Shape × Content). IsCurrent p.plan pairs z.0 z.1) (λ i. (sym l.shaped i, sym (put_here p.contents k d) i)) new)
     (λ j some_node ne here cur. subst (IsCurrent p.plan pairs (p.plan.shape j)) (sym (put_else p.contents k d j ne)) record {
       its = cur.its;
@@ -90,11 +89,11 @@ leaf_updates u law id by v a c is leaf covers word m even d long changes ns vs p
       under = λ y lo. under_else p.plan p.pairs u.key u.new ordered (p.plan.shape j).height (p.plan.shape j).top (lookup cur.its.children y)
           (λ one e. ne (sym here ∙ (ap (λ (h : ℕ). p.plan.home h (p.plan.shape j).top) one ∙ (ap (p.plan.home 1) (sym e) ∙ home_1)))) y lo (cur.under y lo);
     })
-    (λ y none. lookup-other p.pairs u.key u.new y (λ e. absurd (let n = s.below_trunk in let z : p.plan.home 1 (u.key / 256) ≡ 0 = ap (λ (t : ℕ). p.plan.home 1 (t / 256)) (sym e) ∙ none in omega (arith, z, home_1, n))) ∙ p.tree.absent y none) in
+    (λ y none. lookup-other p.pairs u.key u.new y (λ e. absurd (let n = s.below_root_word in let z : p.plan.home 1 (u.key / 256) ≡ 0 = ap (λ (t : ℕ). p.plan.home 1 (t / 256)) (sym e) ∙ none in omega (arith, z, home_1, n))) ∙ p.tree.absent y none) in
     let e : Entry ℕ = u.entry in
     let legal = law.legal p.history p.pairs p.legal found in (
       view_of (p.history ++ e ∷ []) v.met [],
-      goes_by id v k word d ns vs p seat low held rises as_long no_maker cs' (λ j ne. put_else p.contents k d j ne) (λ _. sym (put_here p.contents k d)) (λ _ _ _. at_k) (λ _ _. (refl, (m, even))) [] tt tt e pairs (law.by ∙ by) legal tree,
+      goes_by id v k word d ns vs p seat low held rises as_long cs' (λ j ne. put_else p.contents k d j ne) (λ _. sym (put_here p.contents k d)) (λ _ _. at_k) (λ _ _. (refl, (m, even))) [] tt tt e pairs (law.by ∙ by) legal tree,
       record {
         is = refl;
         answers = record { whole = p.history; is = refl; fits = subst (λ (y : ℕ). HasSeen p.history y v.seen) (sym by) kn.seen; legal = (pairs, legal) };

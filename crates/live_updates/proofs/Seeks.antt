@@ -1,7 +1,7 @@
 -- What a seat knows after a node was read in a look-up.
 use Rattle.std.proofs.Common.{◌≡◌, ◌≢◌, ℕ, ◌*◌, ◌≤◌, zero, suc, Bool, true, false, IsTrue, List, ◌∷◌, ◌++◌, Option, Some, None, refl, sym, ap, ◌∙◌, subst, arith}
-use Rattle.node_table.specs.TableNode.{TableNode, Child}
-use Rattle.node_table.specs.declared.child.Child.TheVariants.{Payload, Node as Below}
+use Rattle.spec_node.specs.TableNode.{TableNode, Child}
+use Rattle.spec_node.specs.declared.child.Child.TheVariants.{Payload, Node as Below}
 use Rattle.spec_map.specs.Map.{lookup}
 use Rattle.share_rule.specs.History.{Entry}
 use Rattle.word_book.specs.Book.{Book, Name, reads, none_joined}
@@ -15,8 +15,8 @@ use Rattle.live_layout.specs.Encodes.{IsBelow, Encodes}
 use Rattle.live_law.specs.Levels.{up, digit, Shape, Spot, spot, Covers, place_at}
 use Rattle.live_law.specs.Views.{View}
 use Rattle.live_law.specs.Tree.{IsMap, IsOfKind, Answers}
-use Rattle.live_reads.specs.Forks.{IsForked}
-use Rattle.live_reads.specs.Ways.{IsOpen, Keeps, Sights}
+use Rattle.live_reads.specs.Mismatches.{IsMismatched}
+use Rattle.live_reads.specs.Paths.{IsOpen, Keeps, Sights}
 use Rattle.live_reads.proofs.Views.{learned_keeps, may_check_open, open_checked, open_missed}
 use Rattle.live_updates.specs.declared.lookup.Site.{Site}
 use Rattle.live_updates.specs.declared.lookup.Site.TheVariants as sites
@@ -128,11 +128,11 @@ module _ (v : Seen) (b : Book) (words : List Name) (t name key height : ℕ) (o 
         let covers : Covers its.shape q.key = ap (up its.shape.height) asked ∙ o.names.covers in
         let below : IsBelow under found = subst (λ (z : ℕ × ℕ). IsBelow (lookup x.is.its.children (digit z.0 z.1)) found) (λ i. (sym o.names.high i, sym asked i)) (finds x.is.content x.is.its x.is.agrees x.is.encodes x.is.in_form) in
         let kind : IsOfKind its.shape.height under = subst (λ (z : Shape). IsOfKind z.height (lookup x.is.its.children (digit z.height q.key))) shape_is x.of_kind in
-        let then : Seeks q t (asked_by q) v.client its under h.0 h.1 = subst (λ (z : Shape). Covers z q.key → Seeks q t (asked_by q) v.client (spot its.number z) (lookup x.is.its.children (digit z.height q.key)) h.0 h.1) shape_is x.on_way covers in
+        let then : Seeks q t (asked_by q) v.client its under h.0 h.1 = subst (λ (z : Shape). Covers z q.key → Seeks q t (asked_by q) v.client (spot its.number z) (lookup x.is.its.children (digit z.height q.key)) h.0 h.1) shape_is x.on_path covers in
         at_end q v w h.0 (read its.number t saw_it ∷ o.opened.before) h.1 h.2 t height its under found end (subst (λ (z : ℕ). IsOfKind z under) o.names.high kind) below then
 
--- AN OPEN NODE was read that leads on to one whose way the key leaves.
-module _ (v : Seen) (b : Book) (words : List Name) (t name key height : ℕ) (f : IsForked v b words t name key height) (high : 2 ≤ height) (k : ℕ) (at_k : (place_at f.names.spot).key ≡ k) (q : Lookup) (asked : q.key ≡ key) where
+-- AN OPEN NODE was read that leads on to one whose path the key leaves.
+module _ (v : Seen) (b : Book) (words : List Name) (t name key height : ℕ) (f : IsMismatched v b words t name key height) (high : 2 ≤ height) (k : ℕ) (at_k : (place_at f.names.spot).key ≡ k) (q : Lookup) (asked : q.key ≡ key) where
   abbrev x : Spot
   x = f.names.spot
 
@@ -168,6 +168,6 @@ module _ (v : Seen) (b : Book) (words : List Name) (t name key height : ℕ) (f 
         let under : Option (Child ℕ) = lookup y.is.its.children (digit x.shape.height q.key) in
         let covers : Covers x.shape q.key = ap (up x.shape.height) asked ∙ f.names.covers in
         let kind : IsOfKind x.shape.height under = subst (λ (z : Shape). IsOfKind z.height (lookup y.is.its.children (digit z.height q.key))) shape_is y.of_kind in
-        let then : Seeks q t (asked_by q) v.client x under h.0 h.1 = subst (λ (z : Shape). Covers z q.key → Seeks q t (asked_by q) v.client (spot x.number z) (lookup y.is.its.children (digit z.height q.key)) h.0 h.1) shape_is y.on_way covers in
+        let then : Seeks q t (asked_by q) v.client x under h.0 h.1 = subst (λ (z : Shape). Covers z q.key → Seeks q t (asked_by q) v.client (spot x.number z) (lookup y.is.its.children (digit z.height q.key)) h.0 h.1) shape_is y.on_path covers in
         let below : IsBelow under (Some f.word) = subst (λ (z : ℕ × ℕ). IsBelow (lookup y.is.its.children (digit z.0 z.1)) (Some f.word)) (λ i. (sym f.names.high i, sym asked i)) (f.finds y.is.content y.is.its y.is.agrees y.is.encodes y.is.in_form) in
         ended q v w h.0 v.reads h.1 h.2 None (aside x.shape.height under h.0 h.1 (subst (λ (z : ℕ). 2 ≤ z) (sym f.names.high) high) kind below then)

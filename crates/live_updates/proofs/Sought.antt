@@ -4,8 +4,8 @@ use mathlib.Core.Option.{some}
 use mathlib.Core.Logic.{dite}
 use native.Mathlib.Decide.{ℕ_discrete}
 use lib.ListN.{get_elem?}
-use Rattle.node_table.specs.TableNode.{Child}
-use Rattle.node_table.specs.declared.child.Child.TheVariants.{Payload, Node as Below}
+use Rattle.spec_node.specs.TableNode.{Child}
+use Rattle.spec_node.specs.declared.child.Child.TheVariants.{Payload, Node as Below}
 use Rattle.spec_map.specs.Map.{lookup}
 use Rattle.atomic_table.proofs.Lists.{set_again}
 use Rattle.share_rule.specs.History.{Entry}
@@ -14,7 +14,7 @@ use Rattle.live_nodes.specs.Acts as acts
 use Rattle.live_nodes.specs.Nodes.{Node, node}
 use Rattle.live_nodes.specs.Rule.{PlaceFits}
 use Rattle.live_nodes.specs.Seats.{Each, IsIn, Place, Read}
-use Rattle.live_law.specs.Levels.{up, digit, Shape, Covers, way, Spot, spot}
+use Rattle.live_law.specs.Levels.{up, digit, Shape, Covers, bytes_above, Spot, spot}
 use Rattle.live_law.specs.Views.{View, view_of}
 use Rattle.live_law.specs.Tree.{IsUnder, IsMap}
 use Rattle.live_law.proofs.Looks.{with_entry, at_leaf, at_inner, same_watched, node_learns}
@@ -47,7 +47,7 @@ module _ (ns : List Node) (vs : List View) (id : ℕ) (p : IsMap ns vs) (v : Vie
   pub ends : Ends (q.entry found)
   ends = ends_by (q.entry found) refl
 
--- A NODE WAS READ on the way of a key
+-- A NODE WAS READ on the path of a key
 module _ (q : Lookup) (law : IsLookup q) (id : ℕ) (by : q.caller ≡ id) (v : View) (a : Spot) (mine : IsIn a v.met) (word : ℕ) (saw : List (ℕ × ℕ)) (m : ℕ) (even : word ≡ 4 * m) (reads : List Read) where
   module _ (ns : List Node) (vs : List View) (p : IsMap ns vs) (seat : get_elem? vs id ≡ some v) (free : (node ns a.number).holder ≡ None) (word_is : (node ns a.number).word ≡ word) where
     -- the node as it is now
@@ -78,8 +78,8 @@ module _ (q : Lookup) (law : IsLookup q) (id : ℕ) (by : q.caller ≡ id) (v : 
             same_view ns vs id p v seat,
             (λ x parts. absurd (parts.leaves (
                 let down = same_watched (asked_by q) id by v a mine word saw m even reads ns vs p seat x parts.known parts.above free (parts.free_by ∙ ap (λ (z : ℕ). Some z) (sym word_is)) in
-                let low_x : x.spot.number < length ns = subst (λ (z : ℕ). z < length ns) down.here (p.tree.housed down.level (way x.spot.shape down.level) (subst (λ (z : ℕ). 1 ≤ z) (sym down.here) down.some_node)).low in
-                let number : x.spot.number ≡ j = same_name p.plan ns p.nodes x.spot record { below_trunk = down.some_node; low = low_x; key = ap (λ (z : Shape). z.key) down.shaped; form = ap (λ (z : Shape). z.form) down.shaped } j leads.0 house.low (sym parts.named ∙ leads.1) in
+                let low_x : x.spot.number < length ns = subst (λ (z : ℕ). z < length ns) down.here (p.tree.housed down.level (bytes_above x.spot.shape down.level) (subst (λ (z : ℕ). 1 ≤ z) (sym down.here) down.some_node)).low in
+                let number : x.spot.number ≡ j = same_name p.plan ns p.nodes x.spot record { below_root_word = down.some_node; low = low_x; key = ap (λ (z : Shape). z.key) down.shaped; form = ap (λ (z : Shape). z.form) down.shaped } j leads.0 house.low (sym parts.named ∙ leads.1) in
                 subst (λ (z : Shape). Covers z q.key) (sym (ap p.plan.shape number) ∙ down.shaped) covers))),
           ),
         ))

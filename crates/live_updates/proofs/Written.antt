@@ -2,7 +2,7 @@
 use Rattle.std.proofs.Common.{◌≡◌, ℕ, ◌≤◌, List, length, Option, Some, None, sym, ◌∙◌, subst, arith}
 use Rattle.node_base.specs.Form.{limit}
 use Rattle.node_base.specs.declared.base_node.NodeType.{NodeType}
-use Rattle.node_table.specs.TableNode.{TableNode}
+use Rattle.spec_node.specs.TableNode.{TableNode}
 use Rattle.spec_map.specs.Map.{lookup}
 use Rattle.spec_map.proofs.ByteMapLaws.{length-from_Rises}
 use Rattle.live_nodes.specs.Nodes.{Content}

@@ -10,7 +10,7 @@ use crate::leaf::exchange_here;
 use crate::lookup::{Site, seek};
 use live_growth::link::Room;
 use live_growth::map::{Busy, Congee, Guard, TRIES};
-use live_reads::way::{Nodes, Pass};
+use live_reads::path::{Nodes, Seat};
 use std::marker::Brand;
 
 /// An exchange: who makes it, with which key and values. A caller picks it.
@@ -28,18 +28,18 @@ impl Swaps for Brand {
 }
 
 /// Removes a key: the value that it had. `None` where a writer came in between.
-fn remove_once(nodes: &Nodes, key: u64, room: &mut Room, pass: &mut Pass) -> Option<Option<u64>>
-    requires book { pass.old.book ≡ nodes.now }
-    requires ready { IsReady pass.old.view room.old }
-    ensures told { (pass.new.book ≡ pass.old.book) × (pass.new.id ≡ pass.old.id)
-        × IsReady pass.new.view room.new
-        × EndsBy pass.old.id (option_map (removed pass.old.id key) result)
-        pass.old.view pass.new.view }
+fn remove_once(nodes: &Nodes, key: u64, room: &mut Room, seat: &mut Seat) -> Option<Option<u64>>
+    requires book { seat.old.book ≡ nodes.now }
+    requires ready { IsReady seat.old.view room.old }
+    ensures told { (seat.new.book ≡ seat.old.book) × (seat.new.id ≡ seat.old.id)
+        × IsReady seat.new.view room.new
+        × EndsBy seat.old.id (option_map (removed seat.old.id key) result)
+        seat.old.view seat.new.view }
 {
-    match seek::<Brand>(nodes, key, pass)? {
+    match seek::<Brand>(nodes, key, seat)? {
         Site::Absent => Some(None),
         Site::At(leaf, value) => {
-            if exchange_here::<Brand>(nodes, leaf, key, Some(value), None, room, pass).is_some() {
+            if exchange_here::<Brand>(nodes, leaf, key, Some(value), None, room, seat).is_some() {
                 return None;
             }
             Some(Some(value))
@@ -54,24 +54,24 @@ fn exchange_once<X: Swaps>(
     old: u64,
     new: Option<u64>,
     room: &mut Room,
-    pass: &mut Pass,
+    seat: &mut Seat,
 ) -> Option<Result<Option<u64>, Option<u64>>>
-    requires book { pass.old.book ≡ nodes.now }
-    requires swap { X.swap ≡ swap_of pass.old.id key old new }
-    requires ready { IsReady pass.old.view room.old }
-    ensures told { (pass.new.book ≡ pass.old.book) × (pass.new.id ≡ pass.old.id)
-        × IsReady pass.new.view room.new
-        × EndsBy pass.old.id (option_map (swapped pass.old.id key old new) result)
-        pass.old.view pass.new.view }
+    requires book { seat.old.book ≡ nodes.now }
+    requires swap { X.swap ≡ swap_of seat.old.id key old new }
+    requires ready { IsReady seat.old.view room.old }
+    ensures told { (seat.new.book ≡ seat.old.book) × (seat.new.id ≡ seat.old.id)
+        × IsReady seat.new.view room.new
+        × EndsBy seat.old.id (option_map (swapped seat.old.id key old new) result)
+        seat.old.view seat.new.view }
     ensures stored { IfSome result (λ answer. IfOk answer (λ stored. stored ≡ new)) }
 {
-    match seek::<Brand>(nodes, key, pass)? {
+    match seek::<Brand>(nodes, key, seat)? {
         Site::Absent => Some(Err(None)),
         Site::At(leaf, value) => {
             if value != old {
                 return Some(Err(Some(value)));
             }
-            if exchange_here::<Brand>(nodes, leaf, key, Some(old), new, room, pass).is_some() {
+            if exchange_here::<Brand>(nodes, leaf, key, Some(old), new, room, seat).is_some() {
                 return None;
             }
             Some(Ok(new))
@@ -88,7 +88,7 @@ pub fn remove(map: &Congee, guard: &mut Guard, key: u64) -> Result<Option<u64>, 
     ensures busy { OnErr result (guard.new ≡ guard.old) }
 {
     for _ in 0..TRIES {
-        if let Some(before) = remove_once(&map.nodes, key, &mut guard.room, &mut guard.pass) {
+        if let Some(before) = remove_once(&map.nodes, key, &mut guard.room, &mut guard.seat) {
             return Ok(before);
         }
     }
@@ -117,7 +117,7 @@ pub fn compare_exchange(
             old,
             new,
             &mut guard.room,
-            &mut guard.pass,
+            &mut guard.seat,
         ) {
             return Ok(answer);
         }

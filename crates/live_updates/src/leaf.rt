@@ -1,26 +1,26 @@
 //! A leaf is locked, and a key there gets another value, or none.
 ghost use Rattle.std.specs.Prelude.{◌≡◌, ℕ, [], length, Some, None};
-ghost use Rattle.node_table.specs.TableNode.{TableNode};
+ghost use Rattle.spec_node.specs.TableNode.{TableNode};
 ghost use Rattle.live_layout.specs.Words.{Stays, Looks};
 ghost use Rattle.live_layout.specs.Encodes.{words_of, IsCounted, Encodes};
-ghost use Rattle.live_reads.specs.Ways.{Names};
+ghost use Rattle.live_reads.specs.Paths.{Names};
 ghost use Rattle.live_growth.specs.Holds.{HasRest};
 ghost use Rattle.live_growth.specs.Calls.{IsReady};
 ghost use Rattle.live_updates.specs.inner.Updates.{IsUpdate, IsSet, Updated, missed_by};
 
-use live_detach::narrow::{Fill, fill_of, narrow_way};
+use live_detach::shrink_node::{Fill, fill_of, shrink_on_path};
 use live_detach::tidy::tidy;
 use live_growth::held::{lock_node, unlock_same};
 use live_growth::link::Room;
-use live_law::law::{Levels, Mine};
+use live_law::law::{MapLaw, MapView};
 use live_layout::change::{change, is_full, put, take};
 use live_layout::form::{form_below, words_in};
 use live_layout::search::find;
-use live_layout::words::{Draft, Drafted};
+use live_layout::words::{AsReadWords, WriteWords};
 use live_nodes::node;
-use live_nodes::plays::Change;
-use live_nodes::rows::Held;
-use live_reads::way::{Nodes, Pass, byte_at, words_at};
+use live_nodes::plays::OnLock;
+use live_nodes::rows::LockedWords;
+use live_reads::path::{Nodes, Seat, byte_at, words_at};
 use node_base::base_node::NodeType;
 use std::marker::{Brand, PhantomData};
 
@@ -53,14 +53,14 @@ pub struct Write<U> {
     of: PhantomData<U>,
 }
 
-impl<U: Updates> Change<Mine> for Write<U> {
+impl<U: Updates> OnLock<MapView> for Write<U> {
     ghost use Rattle.live_updates.specs.inner.Updates.{Writes};
 
     ghost told = { Writes U.update };
 }
 
 /// Gives a byte of a leaf another value, if it has the expected one.
-fn replace<S, D: Draft<S>>(
+fn replace<S, D: WriteWords<S>>(
     draft: &D,
     form: NodeType,
     byte: u8,
@@ -78,7 +78,7 @@ fn replace<S, D: Draft<S>>(
         (D.words draft.now seat.new) n }
 {
     let long = words_in(form);
-    let cells = Drafted { draft, long };
+    let cells = AsReadWords { draft, long };
     if find(&cells, form, byte, seat) != Some(old) {
         return Some(Missed::Changed);
     }
@@ -89,7 +89,7 @@ fn replace<S, D: Draft<S>>(
 }
 
 /// Takes a byte's value out of a leaf, if it is the expected one.
-fn take_out<S, D: Draft<S>>(
+fn take_out<S, D: WriteWords<S>>(
     draft: &D,
     form: NodeType,
     byte: u8,
@@ -107,7 +107,7 @@ fn take_out<S, D: Draft<S>>(
         (D.words draft.now seat.new) n }
 {
     let long = words_in(form);
-    let cells = Drafted { draft, long };
+    let cells = AsReadWords { draft, long };
     if find(&cells, form, byte, seat) != Some(old) {
         return Some(Missed::Changed);
     }
@@ -118,7 +118,7 @@ fn take_out<S, D: Draft<S>>(
 }
 
 /// Gives a byte of a leaf a value, if it has none, and there is room.
-fn put_in<S, D: Draft<S>>(
+fn put_in<S, D: WriteWords<S>>(
     draft: &D,
     form: NodeType,
     byte: u8,
@@ -135,7 +135,7 @@ fn put_in<S, D: Draft<S>>(
         (D.words draft.now seat.new) n }
 {
     let long = words_in(form);
-    let cells = Drafted { draft, long };
+    let cells = AsReadWords { draft, long };
     if find(&cells, form, byte, seat).is_some() {
         return Some(Missed::Changed);
     }
@@ -147,7 +147,7 @@ fn put_in<S, D: Draft<S>>(
 }
 
 /// Gives a byte of a leaf what it is to have, if it has what is expected. Where both are nothing, nothing is written.
-fn set<S, D: Draft<S>>(
+fn set<S, D: WriteWords<S>>(
     draft: &D,
     form: NodeType,
     byte: u8,
@@ -173,7 +173,7 @@ fn set<S, D: Draft<S>>(
 }
 
 /// How many keys a leaf has, where one was taken out.
-fn left_in<S, D: Draft<S>>(draft: &D, form: NodeType, new: Option<u64>, seat: &mut S) -> Fill
+fn left_in<S, D: WriteWords<S>>(draft: &D, form: NodeType, new: Option<u64>, seat: &mut S) -> Fill
     requires may { D.may_write draft.now seat.old }
     requires long { length (D.words draft.now seat.old) ≡ words_of form }
     ensures seat { Looks D.may_write D.words draft.now seat.old seat.new }
@@ -192,33 +192,33 @@ fn update_leaf<U: Updates>(
     key: u64,
     old: Option<u64>,
     new: Option<u64>,
-    pass: &mut Pass,
+    seat: &mut Seat,
 ) -> Result<Fill, Missed>
-    requires book { pass.old.book ≡ nodes.now }
-    requires asks { (U.update.key ≡ key) × (U.update.caller ≡ pass.old.id) }
+    requires book { seat.old.book ≡ nodes.now }
+    requires asks { (U.update.key ≡ key) × (U.update.caller ≡ seat.old.id) }
     requires values { (U.update.old ≡ old) × (U.update.new ≡ new) }
     requires legal { IsUpdate U.update }
-    requires named { Names pass.old.view name key 1 }
-    requires rests { (pass.old.view.client.own ≡ []) × (pass.old.view.holds ≡ []) }
-    ensures told { (pass.new.book ≡ pass.old.book) × (pass.new.id ≡ pass.old.id)
-        × HasRest pass.old.view pass.new.view
-        × Updated U.update (missed_by result) pass.old.view pass.new.view }
+    requires named { Names seat.old.view name key 1 }
+    requires rests { (seat.old.view.client.own ≡ []) × (seat.old.view.holds ≡ []) }
+    ensures told { (seat.new.book ≡ seat.old.book) × (seat.new.id ≡ seat.old.id)
+        × HasRest seat.old.view seat.new.view
+        × Updated U.update (missed_by result) seat.old.view seat.new.view }
 {
     let Some(words) = words_at(nodes, name) else {
         return Err(Missed::Busy);
     };
     let form = form_below(name);
     let byte = byte_at(key, 1);
-    let Some(free) = lock_node(words, name, 1, key, pass) else {
+    let Some(free) = lock_node(words, name, 1, key, seat) else {
         return Err(Missed::Busy);
     };
-    let held: Held<'_, Mine, Levels, 0> = Held { words };
-    if let Some(missed) = set(&held, form, byte, old, new, pass) {
-        unlock_same(words, free, pass);
+    let held: LockedWords<'_, MapView, MapLaw, 0> = LockedWords { words };
+    if let Some(missed) = set(&held, form, byte, old, new, seat) {
+        unlock_same(words, free, seat);
         return Err(missed);
     }
-    let left = left_in(&held, form, new, pass);
-    node::unlock::<Mine, Levels, Write<U>>(&words[0], free, pass);
+    let left = left_in(&held, form, new, seat);
+    node::unlock::<MapView, MapLaw, Write<U>>(&words[0], free, seat);
     Ok(left)
 }
 
@@ -229,19 +229,19 @@ pub fn update_here<U: Updates>(
     key: u64,
     old: Option<u64>,
     new: Option<u64>,
-    pass: &mut Pass,
+    seat: &mut Seat,
 ) -> Option<Missed>
-    requires book { pass.old.book ≡ nodes.now }
-    requires asks { (U.update.key ≡ key) × (U.update.caller ≡ pass.old.id) }
+    requires book { seat.old.book ≡ nodes.now }
+    requires asks { (U.update.key ≡ key) × (U.update.caller ≡ seat.old.id) }
     requires values { (U.update.old ≡ old) × (U.update.new ≡ new) }
     requires legal { IsUpdate U.update }
-    requires named { Names pass.old.view name key 1 }
-    requires rests { (pass.old.view.client.own ≡ []) × (pass.old.view.holds ≡ []) }
-    ensures told { (pass.new.book ≡ pass.old.book) × (pass.new.id ≡ pass.old.id)
-        × HasRest pass.old.view pass.new.view
-        × Updated U.update result pass.old.view pass.new.view }
+    requires named { Names seat.old.view name key 1 }
+    requires rests { (seat.old.view.client.own ≡ []) × (seat.old.view.holds ≡ []) }
+    ensures told { (seat.new.book ≡ seat.old.book) × (seat.new.id ≡ seat.old.id)
+        × HasRest seat.old.view seat.new.view
+        × Updated U.update result seat.old.view seat.new.view }
 {
-    match update_leaf::<U>(nodes, name, key, old, new, pass) {
+    match update_leaf::<U>(nodes, name, key, old, new, seat) {
         Ok(_) => None,
         Err(missed) => Some(missed),
     }
@@ -256,25 +256,25 @@ pub fn exchange_here<U: Updates>(
     old: Option<u64>,
     new: Option<u64>,
     room: &mut Room,
-    pass: &mut Pass,
+    seat: &mut Seat,
 ) -> Option<Missed>
-    requires book { pass.old.book ≡ nodes.now }
-    requires asks { (U.update.key ≡ key) × (U.update.caller ≡ pass.old.id) }
+    requires book { seat.old.book ≡ nodes.now }
+    requires asks { (U.update.key ≡ key) × (U.update.caller ≡ seat.old.id) }
     requires values { (U.update.old ≡ old) × (U.update.new ≡ new) }
     requires legal { IsUpdate U.update }
-    requires ready { IsReady pass.old.view room.old }
-    requires named { Names pass.old.view name key 1 }
-    ensures told { (pass.new.book ≡ pass.old.book) × (pass.new.id ≡ pass.old.id)
-        × IsReady pass.new.view room.new
-        × Updated U.update result pass.old.view pass.new.view }
+    requires ready { IsReady seat.old.view room.old }
+    requires named { Names seat.old.view name key 1 }
+    ensures told { (seat.new.book ≡ seat.old.book) × (seat.new.id ≡ seat.old.id)
+        × IsReady seat.new.view room.new
+        × Updated U.update result seat.old.view seat.new.view }
 {
-    match update_leaf::<U>(nodes, name, key, old, new, pass) {
+    match update_leaf::<U>(nodes, name, key, old, new, seat) {
         Ok(Fill::Empty) => {
-            tidy(nodes, key, room, pass);
+            tidy(nodes, key, room, seat);
             None
         }
         Ok(left) => {
-            narrow_way(nodes, name, left, key, room, pass);
+            shrink_on_path(nodes, name, left, key, room, seat);
             None
         }
         Err(missed) => Some(missed),

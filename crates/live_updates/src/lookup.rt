@@ -1,17 +1,17 @@
 //! A look-up of a key, which may end a call: the key's value, and its leaf.
 ghost use Rattle.std.specs.Prelude.{◌≡◌, ◌≤◌};
-ghost use Rattle.live_reads.specs.Ways.{KnowsTrunk, Sights, IsOpen, Keeps};
+ghost use Rattle.live_reads.specs.Paths.{KnowsRootWord, Sights, IsOpen, Keeps};
 ghost use Rattle.live_updates.specs.inner.Lookups.{IsLookup, MaySight, Found, Lacks, Sought};
 
-use live_law::law::{Levels, Mine};
+use live_law::law::{MapLaw, MapView};
 use live_layout::form::form_below;
 use live_layout::search::find;
 use live_nodes::node;
-use live_nodes::plays::Lesson;
-use live_nodes::rows::Row;
-use live_reads::fork::watch;
-use live_reads::sight::{Next, enter, step};
-use live_reads::way::{Nodes, Opened, Pass, byte_at, open, root};
+use live_nodes::plays::OnCheck;
+use live_nodes::rows::SharedWords;
+use live_reads::mismatch::watch;
+use live_reads::path::{Nodes, Opened, Seat, byte_at, open, root};
+use live_reads::prefix_match::{Next, enter, step};
 use std::marker::{Brand, PhantomData};
 
 /// A look-up: who makes it, of which key, and where its call ends. A caller picks it.
@@ -40,7 +40,7 @@ pub struct Learn<Q> {
     of: PhantomData<Q>,
 }
 
-impl<Q: Lookups> Lesson<Mine> for Learn<Q> {
+impl<Q: Lookups> OnCheck<MapView> for Learn<Q> {
     ghost use Rattle.live_updates.specs.inner.Lookups.{LearnsSeek};
 
     ghost told = { LearnsSeek Q.lookup };
@@ -51,21 +51,21 @@ pub fn ends_in<Q: Lookups>(
     here: Opened<'_>,
     name: u64,
     key: u64,
-    pass: &mut Pass,
+    seat: &mut Seat,
 ) -> Option<Option<u64>>
-    requires asks { (Q.lookup.key ≡ key) × (Q.lookup.caller ≡ pass.old.id) }
+    requires asks { (Q.lookup.key ≡ key) × (Q.lookup.caller ≡ seat.old.id) }
     requires legal { IsLookup Q.lookup }
-    requires open { IsOpen pass.old.view pass.old.book here.words.now here.taken name key 1 }
-    ensures told { (pass.new.book ≡ pass.old.book) × (pass.new.id ≡ pass.old.id)
-        × Keeps pass.old.view pass.new.view
-        × Found Q.lookup result pass.old.view pass.new.view }
+    requires open { IsOpen seat.old.view seat.old.book here.words.now here.taken name key 1 }
+    ensures told { (seat.new.book ≡ seat.old.book) × (seat.new.id ≡ seat.old.id)
+        × Keeps seat.old.view seat.new.view
+        × Found Q.lookup result seat.old.view seat.new.view }
 {
     let Opened { words, taken } = here;
     let form = form_below(name);
     let byte = byte_at(key, 1);
-    let row = Row { words };
-    let found = find(&row, form, byte, pass);
-    if !node::check::<Mine, Levels, Learn<Q>>(&words[0], taken, pass) {
+    let row = SharedWords { words };
+    let found = find(&row, form, byte, seat);
+    if !node::check::<MapView, MapLaw, Learn<Q>>(&words[0], taken, seat) {
         return None;
     }
     Some(found)
@@ -78,27 +78,27 @@ fn has_no_child<Q: Lookups>(
     name: u64,
     height: usize,
     key: u64,
-    pass: &mut Pass,
+    seat: &mut Seat,
 ) -> bool
-    requires asks { (Q.lookup.key ≡ key) × (Q.lookup.caller ≡ pass.old.id) }
+    requires asks { (Q.lookup.key ≡ key) × (Q.lookup.caller ≡ seat.old.id) }
     requires legal { IsLookup Q.lookup }
-    requires open { IsOpen pass.old.view pass.old.book here.words.now here.taken name key height }
+    requires open { IsOpen seat.old.view seat.old.book here.words.now here.taken name key height }
     requires height { (2 ≤ height) × (height ≤ 8) }
-    ensures told { (pass.new.book ≡ pass.old.book) × (pass.new.id ≡ pass.old.id)
-        × Keeps pass.old.view pass.new.view
-        × Lacks Q.lookup result pass.old.view pass.new.view }
+    ensures told { (seat.new.book ≡ seat.old.book) × (seat.new.id ≡ seat.old.id)
+        × Keeps seat.old.view seat.new.view
+        × Lacks Q.lookup result seat.old.view seat.new.view }
 {
     let Opened { words, taken } = here;
     let form = form_below(name);
     let byte = byte_at(key, height);
-    let row = Row { words };
-    if find(&row, form, byte, pass).is_some() {
+    let row = SharedWords { words };
+    if find(&row, form, byte, seat).is_some() {
         return false;
     }
-    node::check::<Mine, Levels, Learn<Q>>(&words[0], taken, pass)
+    node::check::<MapView, MapLaw, Learn<Q>>(&words[0], taken, seat)
 }
 
-/// Whether the key is absent, as an open node leads on to one whose way the key leaves. `false` where a writer came in
+/// Whether the key is absent, as an open node leads on to one whose path the key leaves. `false` where a writer came in
 /// between.
 fn leads_aside<Q: Lookups>(
     nodes: &Nodes,
@@ -107,25 +107,25 @@ fn leads_aside<Q: Lookups>(
     height: usize,
     below: u64,
     key: u64,
-    pass: &mut Pass,
+    seat: &mut Seat,
 ) -> bool
-    requires book { pass.old.book ≡ nodes.now }
-    requires asks { (Q.lookup.key ≡ key) × (Q.lookup.caller ≡ pass.old.id) }
+    requires book { seat.old.book ≡ nodes.now }
+    requires asks { (Q.lookup.key ≡ key) × (Q.lookup.caller ≡ seat.old.id) }
     requires legal { IsLookup Q.lookup }
-    requires open { IsOpen pass.old.view pass.old.book here.words.now here.taken name key height }
+    requires open { IsOpen seat.old.view seat.old.book here.words.now here.taken name key height }
     requires height { (2 ≤ height) × (height ≤ 8) }
-    requires below { Sights pass.old.view below }
-    ensures told { (pass.new.book ≡ pass.old.book) × (pass.new.id ≡ pass.old.id)
-        × Keeps pass.old.view pass.new.view
-        × Lacks Q.lookup result pass.old.view pass.new.view }
+    requires below { Sights seat.old.view below }
+    ensures told { (seat.new.book ≡ seat.old.book) × (seat.new.id ≡ seat.old.id)
+        × Keeps seat.old.view seat.new.view
+        × Lacks Q.lookup result seat.old.view seat.new.view }
 {
-    if !watch::<Brand>(nodes, here, name, height, below, key, pass) {
+    if !watch::<Brand>(nodes, here, name, height, below, key, seat) {
         return false;
     }
-    node::check::<Mine, Levels, Learn<Q>>(&here.words[0], here.taken, pass)
+    node::check::<MapView, MapLaw, Learn<Q>>(&here.words[0], here.taken, seat)
 }
 
-/// Whether the key is absent, as an inner node has no child for it, or leads on to a node whose way the key leaves. `false`
+/// Whether the key is absent, as an inner node has no child for it, or leads on to a node whose path the key leaves. `false`
 /// where a writer came in between.
 pub fn is_absent<Q: Lookups>(
     nodes: &Nodes,
@@ -133,80 +133,80 @@ pub fn is_absent<Q: Lookups>(
     height: usize,
     below: Option<u64>,
     key: u64,
-    pass: &mut Pass,
+    seat: &mut Seat,
 ) -> bool
-    requires book { pass.old.book ≡ nodes.now }
-    requires asks { (Q.lookup.key ≡ key) × (Q.lookup.caller ≡ pass.old.id) }
+    requires book { seat.old.book ≡ nodes.now }
+    requires asks { (Q.lookup.key ≡ key) × (Q.lookup.caller ≡ seat.old.id) }
     requires legal { IsLookup Q.lookup }
-    requires sighted { Sights pass.old.view name }
+    requires sighted { Sights seat.old.view name }
     requires height { (2 ≤ height) × (height ≤ 8) }
-    requires below { MaySight pass.old.view below }
-    ensures told { (pass.new.book ≡ pass.old.book) × (pass.new.id ≡ pass.old.id)
-        × Keeps pass.old.view pass.new.view
-        × Lacks Q.lookup result pass.old.view pass.new.view }
+    requires below { MaySight seat.old.view below }
+    ensures told { (seat.new.book ≡ seat.old.book) × (seat.new.id ≡ seat.old.id)
+        × Keeps seat.old.view seat.new.view
+        × Lacks Q.lookup result seat.old.view seat.new.view }
 {
-    let Some(here) = enter(nodes, name, height, key, pass) else {
+    let Some(here) = enter(nodes, name, height, key, seat) else {
         return false;
     };
     match below {
-        Some(below) => leads_aside::<Q>(nodes, here, name, height, below, key, pass),
-        None => has_no_child::<Q>(here, name, height, key, pass),
+        Some(below) => leads_aside::<Q>(nodes, here, name, height, below, key, seat),
+        None => has_no_child::<Q>(here, name, height, key, seat),
     }
 }
 
-// The key is absent at a node where its way ends. `None` where a writer came in between.
+// The key is absent at a node where its path ends. `None` where a writer came in between.
 fn absent_at<Q: Lookups>(
     nodes: &Nodes,
     name: u64,
     height: usize,
     below: Option<u64>,
     key: u64,
-    pass: &mut Pass,
+    seat: &mut Seat,
 ) -> Option<Site>
-    requires book { pass.old.book ≡ nodes.now }
-    requires asks { (Q.lookup.key ≡ key) × (Q.lookup.caller ≡ pass.old.id) }
+    requires book { seat.old.book ≡ nodes.now }
+    requires asks { (Q.lookup.key ≡ key) × (Q.lookup.caller ≡ seat.old.id) }
     requires legal { IsLookup Q.lookup }
-    requires sighted { Sights pass.old.view name }
+    requires sighted { Sights seat.old.view name }
     requires height { (2 ≤ height) × (height ≤ 8) }
-    requires below { MaySight pass.old.view below }
-    ensures told { (pass.new.book ≡ pass.old.book) × (pass.new.id ≡ pass.old.id)
-        × Keeps pass.old.view pass.new.view
-        × Sought Q.lookup result pass.old.view pass.new.view }
+    requires below { MaySight seat.old.view below }
+    ensures told { (seat.new.book ≡ seat.old.book) × (seat.new.id ≡ seat.old.id)
+        × Keeps seat.old.view seat.new.view
+        × Sought Q.lookup result seat.old.view seat.new.view }
 {
-    if is_absent::<Q>(nodes, name, height, below, key, pass) {
+    if is_absent::<Q>(nodes, name, height, below, key, seat) {
         return Some(Site::Absent);
     }
     None
 }
 
 /// Where a key is. The call has ended there, if it ends by what was found. `None` where a writer came in between.
-pub fn seek<Q: Lookups>(nodes: &Nodes, key: u64, pass: &mut Pass) -> Option<Site>
-    requires book { pass.old.book ≡ nodes.now }
-    requires asks { (Q.lookup.key ≡ key) × (Q.lookup.caller ≡ pass.old.id) }
+pub fn seek<Q: Lookups>(nodes: &Nodes, key: u64, seat: &mut Seat) -> Option<Site>
+    requires book { seat.old.book ≡ nodes.now }
+    requires asks { (Q.lookup.key ≡ key) × (Q.lookup.caller ≡ seat.old.id) }
     requires legal { IsLookup Q.lookup }
-    requires trunk { KnowsTrunk pass.old.view }
-    ensures told { (pass.new.book ≡ pass.old.book) × (pass.new.id ≡ pass.old.id)
-        × Keeps pass.old.view pass.new.view
-        × Sought Q.lookup result pass.old.view pass.new.view }
+    requires root_word { KnowsRootWord seat.old.view }
+    ensures told { (seat.new.book ≡ seat.old.book) × (seat.new.id ≡ seat.old.id)
+        × Keeps seat.old.view seat.new.view
+        × Sought Q.lookup result seat.old.view seat.new.view }
 {
-    let mut name = root(nodes, key, pass)?;
+    let mut name = root(nodes, key, seat)?;
     let mut height = 8usize;
-    let mut here = open(nodes, name, pass)?;
+    let mut here = open(nodes, name, seat)?;
     while height > 1 {
-        let step = step::<Brand>(nodes, here, name, height, key, pass)?;
+        let step = step::<Brand>(nodes, here, name, height, key, seat)?;
         match step.next {
-            Next::Ends => return absent_at::<Q>(nodes, name, height, None, key, pass),
+            Next::Ends => return absent_at::<Q>(nodes, name, height, None, key, seat),
             Next::Goes(below, lower) => {
                 name = below;
                 height = lower;
                 here = step.here;
             }
-            Next::Forks(fork) => {
-                return absent_at::<Q>(nodes, name, height, Some(fork.below), key, pass);
+            Next::Mismatches(mismatch) => {
+                return absent_at::<Q>(nodes, name, height, Some(mismatch.below), key, seat);
             }
         }
     }
-    match ends_in::<Q>(here, name, key, pass)? {
+    match ends_in::<Q>(here, name, key, seat)? {
         Some(value) => Some(Site::At(name, value)),
         None => Some(Site::Absent),
     }

@@ -2,8 +2,8 @@
 use Rattle.std.proofs.Common.{◌≡◌, ℕ, List, length, sym, subst, ◌∙◌, ap, refl}
 use Rattle.node_base.specs.Form.{Fits, smaller_form}
 use Rattle.node_base.specs.declared.base_node.NodeType.{NodeType}
-use Rattle.node_table.specs.TableNode.{TableNodeOf}
-use Rattle.node_table.specs.declared.child.Child.{Child as ChildOf}
+use Rattle.spec_node.specs.TableNode.{TableNodeOf}
+use Rattle.spec_node.specs.declared.child.Child.{Child as ChildOf}
 use Rattle.node_rows.specs.declared.row_node.RowKind.{RowKind}
 use Rattle.node_rows.specs.inner.Rows.{node_of_kind, IsOfKind}
 

@@ -13,8 +13,8 @@ ghost use Rattle.node_base.specs.Rest.{rest};
 ghost use Rattle.node_base.specs.inner.Sorted.{pairs};
 ghost use Rattle.node_table.specs.Children.{children_left, MayYield};
 ghost use Rattle.node_table.specs.inner.Kinds.{with_child, without_child};
-ghost use Rattle.node_table.specs.Meeting.{IsMet, met_at};
-ghost use Rattle.node_table.specs.TableNode.{MayHave, looked_at_ref};
+ghost use Rattle.spec_node.specs.Meeting.{IsMet, met_at};
+ghost use Rattle.spec_node.specs.TableNode.{MayHave, looked_at_ref};
 ghost use Rattle.node_rows.specs.Spare.{IsSpareFor};
 ghost use Rattle.node_rows.specs.inner.Rows.{row_node, IsInnerRow};
 ghost use Rattle.node_rows.specs.inner.Steps.{IsHeadOf};
@@ -23,7 +23,7 @@ use crate::row_head::RowHead;
 use crate::spare::{Spare, make_room};
 use node_base::base_node::BaseNode;
 use node_base::iter::{Node16Iter, NodeIter};
-use node_table::child::{Child, ChildIter, ChildRef, Meeting};
+use spec_node::child::{Child, ChildIter, ChildRef, Meeting};
 
 /// What all forms have.
 #[inline(always)]

@@ -10,8 +10,8 @@ ghost use Rattle.spec_map.specs.Map.{lookup, put, without, between, Rises};
 ghost use Rattle.spec_map.specs.Near.{below_of};
 ghost use Rattle.node_base.specs.Form.{Fits, few_in};
 ghost use Rattle.node_table.specs.Children.{children_left, MayYield};
-ghost use Rattle.node_table.specs.Meeting.{IsMet, met_at};
-ghost use Rattle.node_table.specs.TableNode.{MayHave, looked_at_ref};
+ghost use Rattle.spec_node.specs.Meeting.{IsMet, met_at};
+ghost use Rattle.spec_node.specs.TableNode.{MayHave, looked_at_ref};
 ghost use Rattle.node_rows.specs.Spare.{IsSpareFor};
 
 use crate::inner_row;
@@ -24,10 +24,10 @@ use node_forms::head_4::Head4;
 use node_forms::head_16::Head16;
 use node_forms::node_48::Node48;
 use node_forms::node_256::Node256;
-use node_table::child::{Child, ChildIter, ChildRef, Meeting};
 use node_table::kinds::{InTable, InnerHead, Leaf};
 use node_table::setting::has_no_room;
 use spec_map::error::OOMError;
+use spec_node::child::{Child, ChildIter, ChildRef, Meeting};
 use std::alloc::Global;
 use std::marker::Model;
 
@@ -57,7 +57,7 @@ enum RowKind<P, C> {
 }
 
 impl<P, C> Model for RowNode<P, C> {
-    ghost use Rattle.node_table.specs.TableNode.{TableNodeOf};
+    ghost use Rattle.spec_node.specs.TableNode.{TableNodeOf};
     ghost use Rattle.node_table.specs.inner.Codes.{table_node_of_code};
     ghost use Rattle.node_rows.specs.inner.Rows.{node_of_kind, IsOfKind};
 

@@ -5,7 +5,7 @@ use Rattle.std.proofs.Math.Bool.{and-false}
 use Rattle.std.proofs.lemmas.Bool.{lt-ltb, le-ltb}
 use Rattle.std.proofs.lemmas.List.Sums.{sum_by-cons, sum_by-append}
 use Rattle.std.proofs.lemmas.List.{map-append}
-use Rattle.node_table.specs.Key.{begins, Begins}
+use Rattle.spec_node.specs.Key.{begins, Begins}
 use Rattle.node_table.specs.Table.{NodeInfo}
 use Rattle.node_table.specs.Shape.{IsUnder, AreUnder, AllBegin}
 use Rattle.node_stats.specs.Stats.{visit}

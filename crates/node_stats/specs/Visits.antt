@@ -1,6 +1,6 @@
 -- The nodes of a tree as the statistics see them.
 use Rattle.std.specs.Prelude.{ℕ, ◌+◌, Bool, ◌&&◌, List, length, map, nat_lt, count_by}
-use Rattle.node_table.specs.Key.{begins}
+use Rattle.spec_node.specs.Key.{begins}
 use Rattle.node_table.specs.Table.{NodeInfo}
 use Rattle.node_stats.specs.Stats.{Visit, visit}
 

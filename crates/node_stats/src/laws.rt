@@ -3,7 +3,7 @@
 ghost use Rattle.std.specs.Prelude.{◌≡◌, ℕ, ◌+◌, ◌<◌, ◌^◌, List, [], ◌∷◌, ◌++◌, length, sum_by};
 ghost use Rattle.node_stats.specs.declared.levels.LevelStats.{LevelStats};
 ghost use Rattle.node_stats.specs.Fractions.{IsNearestHundredth};
-ghost use Rattle.node_table.specs.Key.{Begins};
+ghost use Rattle.spec_node.specs.Key.{Begins};
 ghost use Rattle.node_table.specs.Shape.{AreUnder, AllBegin};
 ghost use Rattle.node_stats.specs.Stats.{Visit, visit, IsTally};
 ghost use Rattle.node_stats.specs.StatsText.{all_nodes, all_entries};

@@ -3,7 +3,7 @@ use Rattle.std.proofs.Common.{◌≡◌, ◌≢◌, ◌↔◌, ℕ, Bool, IsTrue
 use Rattle.std.proofs.Math.Seq.{take-append_seam}
 use Rattle.std.proofs.lemmas.List.{take-append-drop}
 use Rattle.std.proofs.lemmas.Bool.{eq-eqb, ne_eqb, cases_eq, and_parts, eqb-true}
-use Rattle.node_table.specs.Key.{begins, Begins}
+use Rattle.spec_node.specs.Key.{begins, Begins}
 
 -- what q goes on with after p
 pub record After (p q : List ℕ) : Type 0 where

@@ -2,7 +2,7 @@
 use Rattle.std.proofs.Common.{◌≡◌, ℕ, ◌+◌, ◌<◌, ◌≤◌, List, [], ◌∷◌, ◌++◌, length, Option, Some, None, refl, ap, sym, subst, ◌∙◌, arith, inl, inr}
 use Rattle.std.proofs.lemmas.Bool.{lt-ltb, le-ltb, eq-eqb, ne_eqb, cases_order}
 use Rattle.spec_map.specs.Map.{lookup, put, Rises}
-use Rattle.node_table.specs.Key.{low, high}
+use Rattle.spec_node.specs.Key.{low, high}
 use Rattle.spec_map.proofs.MapLaws.{Rises-wider, lookup-below, put-below}
 use Rattle.spec_map.proofs.JoinLaws.{Rises-append, lookup-append_left, lookup-append_right, put-append_left, put-append_right}
 use Rattle.node_table.proofs.KeyLaws.{room-positive, least-append, high-append, byte_order}

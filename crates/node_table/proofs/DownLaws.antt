@@ -3,14 +3,14 @@ use Rattle.std.proofs.Common.{◌≡◌, ℕ, zero, suc, ◌+◌, ◌<◌, ◌�
 use Rattle.std.proofs.lemmas.Bool.{eq-eqb, ne_eqb, cases_order}
 use Rattle.node_table.proofs.BeginLaws.{after, begins_append, begins_by}
 use Rattle.spec_map.specs.Map.{lookup, Rises}
-use Rattle.node_table.specs.Key.{low, high, Begins}
+use Rattle.spec_node.specs.Key.{low, high, Begins}
 use Rattle.spec_map.proofs.MapLaws.{lookup-below}
 use Rattle.spec_map.proofs.LocalLaws.{IsLocal}
 use Rattle.node_table.proofs.KeyLaws.{byte_order, room-positive}
 use Rattle.node_table.proofs.ChildrenLaws as laws
-use Rattle.node_table.specs.TableNode.{TableNode, Child}
+use Rattle.spec_node.specs.TableNode.{TableNode, Child}
 use Rattle.node_table.specs.Table.{NodeTable, node_at, pairs_under, pairs_of, pairs_at, IsChild, AreChildren, IsTree}
-use Rattle.node_table.specs.declared.child.Child.TheVariants.{Payload, Node}
+use Rattle.spec_node.specs.declared.child.Child.TheVariants.{Payload, Node}
 use Rattle.node_table.proofs.TableLaws.{under, tree_rises, all_rise, same_pairs}
 use Rattle.node_table.proofs.EachLaws.{each, each_from, pairs_of-each}
 

@@ -1,10 +1,10 @@
 -- What holds of each child of a node, and what follows for all of them.
 use Rattle.std.proofs.Common.{◌≡◌, ℕ, ◌+◌, ◌≤◌, List, [], ◌∷◌, ◌++◌, refl, ap, ◌∙◌, arith}
 use Rattle.spec_map.specs.Map.{Pairs, Rises}
-use Rattle.node_table.specs.Key.{low}
+use Rattle.spec_node.specs.Key.{low}
 use Rattle.node_table.specs.Table.{NodeInfo, pairs_of, nodes_of, AreChildren}
-use Rattle.node_table.specs.TableNode.{Child}
-use Rattle.node_table.specs.declared.child.Child.TheVariants.{Payload, Node}
+use Rattle.spec_node.specs.TableNode.{Child}
+use Rattle.spec_node.specs.declared.child.Child.TheVariants.{Payload, Node}
 
 module _ {P : Type 0} where
   -- where each byte is at least d

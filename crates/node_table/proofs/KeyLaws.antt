@@ -8,7 +8,7 @@ use Rattle.std.specs.Int.{from_be_bytes}
 use Rattle.std.proofs.Common.{w64}
 use Rattle.std.proofs.lemmas.List.{get_or_append_left}
 use Rattle.node_table.proofs.BeginLaws.{after, begins_by}
-use Rattle.node_table.specs.Key.{span, least, room, AreBytes, low, high, key_number, Begins, IsFirstDifference}
+use Rattle.spec_node.specs.Key.{span, least, room, AreBytes, low, high, key_number, Begins, IsFirstDifference}
 
 -- b < d puts a whole span between them
 pub between_spans : (b d s : ℕ) → b < d → b * s + s ≤ d * s

@@ -7,7 +7,7 @@ use Rattle.spec_map.proofs.RangeLaws.{between-next}
 use Rattle.node_base.specs.Form.{Fits}
 use Rattle.node_table.specs.inner.Kinds.{mapped, node_of}
 use Rattle.node_base.specs.declared.base_node.NodeType.{NodeType}
-use Rattle.node_table.specs.declared.child.Child.{Child as ChildOf}
+use Rattle.spec_node.specs.declared.child.Child.{Child as ChildOf}
 
 module _ {C D : Type 0} (f : C → D) where
   pub length-mapped : (es : List (ℕ × C)) → length (mapped f es) ≡ length es

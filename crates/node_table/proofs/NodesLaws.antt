@@ -3,11 +3,11 @@ use Rattle.std.proofs.Common.{◌≡◌, ◌≢◌, ℕ, zero, suc, ◌+◌, ◌
 use Rattle.std.proofs.lemmas.Bool.{lt-ltb, le-ltb, eq-eqb, ne_eqb, cases_order}
 use Rattle.node_table.proofs.BeginLaws.{after, begins_append, begins_itself}
 use Rattle.spec_map.specs.Map.{lookup, put, Rises}
-use Rattle.node_table.specs.Key.{Begins}
+use Rattle.spec_node.specs.Key.{Begins}
 use Rattle.node_table.specs.Table.{NodeTable, NodeInfo, node_at, node_info, nodes_under, nodes_of, nodes_at, IsChild, AreChildren, IsTree}
 use Rattle.node_table.specs.Shape.{Replaces, AreUnder, AllBegin}
-use Rattle.node_table.specs.TableNode.{TableNode, Child}
-use Rattle.node_table.specs.declared.child.Child.TheVariants.{Payload, Node}
+use Rattle.spec_node.specs.TableNode.{TableNode, Child}
+use Rattle.spec_node.specs.declared.child.Child.TheVariants.{Payload, Node}
 use Rattle.spec_map.proofs.MapLaws.{lookup-below}
 use Rattle.node_table.proofs.DownLaws.{Begins-trans, KeepsBelow, KeepsOthers, keeps_longer, keeps_sibling}
 use Rattle.node_table.proofs.WriteLaws.{KeepsSlots, keeps_children}

@@ -2,15 +2,15 @@
 use Rattle.std.proofs.Common.{◌≡◌, ℕ, zero, suc, ◌-◌, List, [], ◌∷◌, ◌++◌, length, get_or, Option, Some, None, refl, ap, sym, subst, ◌∙◌, arith, inl, inr}
 use Rattle.std.proofs.lemmas.Bool.{eq-eqb, ne_eqb, cases_eq}
 use Rattle.spec_map.specs.Map.{lookup, Rises}
-use Rattle.node_table.specs.Key.{AreBytes, low, high, key_number, Begins, IsFirstDifference}
+use Rattle.spec_node.specs.Key.{AreBytes, low, high, key_number, Begins, IsFirstDifference}
 use Rattle.spec_map.proofs.MapLaws.{Rises-wider, lookup-below}
 use Rattle.spec_map.proofs.JoinLaws.{lookup-above}
 use Rattle.node_table.proofs.KeyLaws.{room-positive, low-begins, high-begins, off_prefix, goes_on, key_number_at}
 use Rattle.node_table.proofs.ChildrenLaws as laws
 use Rattle.node_table.specs.Table.{IsSound}
-use Rattle.node_table.specs.TableNode.{TableNode, Child}
+use Rattle.spec_node.specs.TableNode.{TableNode, Child}
 use Rattle.node_table.specs.Table.{NodeTable, node_at, pairs_under, pairs_of, pairs_at, IsChild, AreChildren, IsTree, IsSubtree}
-use Rattle.node_table.specs.declared.child.Child.TheVariants.{Payload, Node}
+use Rattle.spec_node.specs.declared.child.Child.TheVariants.{Payload, Node}
 
 module _ {P : Type 0} (s : NodeTable P) where
   abbrev pub under : ℕ → List ℕ → ℕ → Child P → List (ℕ × P)

@@ -3,10 +3,10 @@ use Rattle.std.proofs.Common.{◌≡◌, ℕ, suc, ◌<◌, ◌≤◌, ◌≢◌
 use Rattle.std.proofs.lemmas.Bool.{lt-ltb, le-ltb, eq-eqb, ne_eqb, cases_order}
 use Rattle.node_table.proofs.BeginLaws.{after}
 use Rattle.spec_map.specs.Map.{lookup, put}
-use Rattle.node_table.specs.Key.{low, high, Begins}
+use Rattle.spec_node.specs.Key.{low, high, Begins}
 use Rattle.node_table.proofs.ChildrenLaws as laws
 use Rattle.node_table.specs.Table.{IsSound}
-use Rattle.node_table.specs.TableNode.{TableNode, Child}
+use Rattle.spec_node.specs.TableNode.{TableNode, Child}
 use Rattle.node_table.specs.Table.{NodeTable, node_at, pairs_of, pairs_at, IsChild, AreChildren, IsTree}
 use Rattle.node_table.proofs.TableLaws.{under, tree_rises, all_rise, same_pairs}
 use Rattle.node_table.proofs.DownLaws.{KeepsBelow, Kept, Same, kept_each, frame}

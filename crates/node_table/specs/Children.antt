@@ -2,10 +2,10 @@
 use Rattle.std.specs.Prelude.{◌≡◌, ℕ, ◌<◌, List, length}
 use Rattle.node_base.specs.Rest.{rest}
 use Rattle.node_table.specs.inner.Kinds.{mapped}
-use Rattle.node_table.specs.declared.child.Child.{Child as ChildOf}
-use Rattle.node_table.specs.declared.child.Child.TheVariants.{Payload, Node}
-use Rattle.node_table.specs.declared.child.ChildIter.{ChildIter}
-use Rattle.node_table.specs.declared.child.ChildIter.TheVariants.{Payloads, Nodes}
+use Rattle.spec_node.specs.declared.child.Child.{Child as ChildOf}
+use Rattle.spec_node.specs.declared.child.Child.TheVariants.{Payload, Node}
+use Rattle.spec_node.specs.declared.child.ChildIter.{ChildIter}
+use Rattle.spec_node.specs.declared.child.ChildIter.TheVariants.{Payloads, Nodes}
 
 module _ {P C : Type 0} where
   abbrev pub children_left : ChildIter P C → List (ℕ × ChildOf P C)

@@ -1,6 +1,6 @@
 -- What an insertion does to the nodes of a tree.
 use Rattle.std.specs.Prelude.{◌≡◌, ℕ, ◌+◌, ◌<◌, List, [], ◌∷◌, ◌++◌, length, take, Option, Some, None, slice_index_or, if◌then◌else◌, nat_lt, ◌⊎◌}
-use Rattle.node_table.specs.Key.{Begins, IsFirstDifference, next_byte}
+use Rattle.spec_node.specs.Key.{Begins, IsFirstDifference, next_byte}
 use Rattle.node_table.specs.Table.{NodeInfo}
 use Rattle.node_base.specs.declared.base_node.NodeType.{NodeType}
 use Rattle.node_base.specs.declared.base_node.NodeType.TheVariants.{N4, N16, N48, N256}

@@ -2,10 +2,10 @@
 -- stores, and its nodes.
 use Rattle.std.specs.Prelude.{◌≡◌, ℕ, zero, suc, ◌≤◌, List, [], ◌∷◌, ◌++◌, length, Option, Some, None, slice_index_or}
 use Rattle.spec_map.specs.Map.{Pairs, Rises}
-use Rattle.node_table.specs.Key.{low, Begins, AreBytes}
+use Rattle.spec_node.specs.Key.{low, Begins, AreBytes}
 use Rattle.node_base.specs.declared.base_node.NodeType.{NodeType}
-use Rattle.node_table.specs.TableNode.{TableNode, Child}
-use Rattle.node_table.specs.declared.child.Child.TheVariants.{Payload, Node}
+use Rattle.spec_node.specs.TableNode.{TableNode, Child}
+use Rattle.spec_node.specs.declared.child.Child.TheVariants.{Payload, Node}
 
 -- the node or nothing in each slot
 abbrev pub NodeTable : Type 0 → Type 0

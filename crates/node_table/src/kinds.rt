@@ -12,15 +12,15 @@ ghost use Rattle.node_base.specs.Form.{Fits};
 ghost use Rattle.node_base.specs.Rest.{rest};
 ghost use Rattle.node_table.specs.Children.{children_left, MayYield};
 ghost use Rattle.node_table.specs.inner.Kinds.{inner_node, leaf_node, places, payloads, with_child, without_child};
-ghost use Rattle.node_table.specs.Meeting.{IsMet, met_at};
-ghost use Rattle.node_table.specs.TableNode.{MayHave, TableNodeOf, looked_at_ref};
-ghost use Rattle.node_table.specs.declared.child.Child.TheVariants.{Payload};
+ghost use Rattle.spec_node.specs.Meeting.{IsMet, met_at};
+ghost use Rattle.spec_node.specs.TableNode.{MayHave, TableNodeOf, looked_at_ref};
+ghost use Rattle.spec_node.specs.declared.child.Child.TheVariants.{Payload};
 
-use crate::child::{Child, ChildIter, ChildRef, Meeting};
 use crate::setting::set_child;
 use node_base::base_node::BaseNode;
 use node_base::head::Head;
 use node_base::iter::{Node16Iter, NodeIter};
+use spec_node::child::{Child, ChildIter, ChildRef, Meeting};
 
 /// The head of an inner node of one form: its row has what is in its children's places.
 #[derive(Drop)]
@@ -37,7 +37,7 @@ pub struct Leaf<H> {
 /// What a node does with its children, whichever kind they are of. Its row is beside its head.
 pub trait InTable<P, C>: Sized {
     ghost use Rattle.std.specs.Prelude.{ℕ, List};
-    ghost use Rattle.node_table.specs.TableNode.{TableNodeOf};
+    ghost use Rattle.spec_node.specs.TableNode.{TableNodeOf};
 
     type Row;
 

@@ -11,10 +11,9 @@ ghost use Rattle.spec_map.specs.Near.{below_of};
 ghost use Rattle.node_base.specs.Form.{Fits, few_in, next_form, smaller_form};
 ghost use Rattle.node_base.specs.Rest.{rest};
 ghost use Rattle.node_table.specs.Children.{children_left, MayYield};
-ghost use Rattle.node_table.specs.Meeting.{IsMet, met_at};
-ghost use Rattle.node_table.specs.TableNode.{MayHave, seen, looked_at, looked_at_ref};
+ghost use Rattle.spec_node.specs.Meeting.{IsMet, met_at};
+ghost use Rattle.spec_node.specs.TableNode.{MayHave, seen, looked_at, looked_at_ref};
 
-use crate::child::{Child, ChildIter, ChildRef, Meeting};
 use crate::kinds::{InTable, InnerHead, Leaf};
 use crate::setting::has_no_room;
 use node_base::base_node::{BaseNode, NodeType};
@@ -26,6 +25,7 @@ use node_forms::node_48::Node48;
 use node_forms::node_256::Node256;
 use node_forms::smaller::{smaller_4, smaller_16, smaller_48};
 use spec_map::error::OOMError;
+use spec_node::child::{Child, ChildIter, ChildRef, Meeting};
 use std::alloc::Global;
 use std::marker::Model;
 
@@ -55,7 +55,7 @@ enum NodeKind<P, C> {
 }
 
 impl<P, C> Model for TreeNode<P, C> {
-    ghost use Rattle.node_table.specs.TableNode.{TableNodeOf};
+    ghost use Rattle.spec_node.specs.TableNode.{TableNodeOf};
     ghost use Rattle.node_table.specs.inner.Codes.{table_node_of_code};
     ghost use Rattle.node_table.specs.inner.Kinds.{table_node, IsOfKind};
 

@@ -1,8 +1,8 @@
 -- WHAT A CALL DOES if its key is absent: it changes nothing, has to write, or asks its closure.
 use Rattle.std.proofs.Common.{◌≡◌, ℕ, ◌+◌, ◌-◌, ◌*◌, ◌<◌, ◌≤◌, Bool, true, false, List, length, Option, Some, None, IsSome, inl, inr, refl, sym, subst, ap, ◌∙◌, arith}
-use Rattle.node_table.specs.Key.{Begins}
-use Rattle.node_table.specs.TableNode.{Child}
-use Rattle.node_table.specs.declared.child.Child.TheVariants.{Payload, Node as below_at}
+use Rattle.spec_node.specs.Key.{Begins}
+use Rattle.spec_node.specs.TableNode.{Child}
+use Rattle.spec_node.specs.declared.child.Child.TheVariants.{Payload, Node as below_at}
 use Rattle.spec_olc.specs.Calls.{Outline, IsPoint, key_of, outline_of, stored}
 use Rattle.spec_olc.specs.Content.{IsCurrent}
 use Rattle.spec_olc.specs.Kinds.{report_of}

@@ -3,9 +3,9 @@ use Rattle.std.proofs.Common.{◌≡◌, ◌↔◌, IsTrue, nat_eq, ℕ, ◌+◌
 use Rattle.std.proofs.lemmas.Bool.{eq-eqb, eqb-true}
 use Rattle.node_base.specs.Form.{Fits}
 use Rattle.spec_map.specs.Map.{lookup}
-use Rattle.node_table.specs.Key.{Begins, next_byte}
-use Rattle.node_table.specs.TableNode.{TableNode, Child}
-use Rattle.node_table.specs.declared.child.Child.TheVariants.{Payload}
+use Rattle.spec_node.specs.Key.{Begins, next_byte}
+use Rattle.spec_node.specs.TableNode.{TableNode, Child}
+use Rattle.spec_node.specs.declared.child.Child.TheVariants.{Payload}
 use Rattle.spec_olc.specs.Meaning.{in_some, child_of}
 use Rattle.olc_state.specs.declared.stage.Path.{Path}
 use Rattle.olc_state.specs.declared.stage.Spot.{Spot}

@@ -13,12 +13,12 @@ ghost use Rattle.olc_decide.specs.inner.Met.{IsAbsence, IsAbsent, IsMetBy, IsRoo
 ghost use Rattle.olc_state.specs.inner.TailFacts.{found};
 ghost use Rattle.olc_descend.specs.inner.Reads.{KnowsMeant, ReadsOnly};
 
-use node_table::child::ChildRef;
 use olc_descend::looking::child_at;
 use olc_state::stage::{Path, Spot, Stage, Stored, Task};
 use olc_state::stepped::{Stepped, asks, decided, going, node_at, report};
 use olc_state::store::Store;
 use olc_state::tail::{Case, Large, NodePair, Small, Tail};
+use spec_node::child::ChildRef;
 use spec_olc::payload::HasMeaning;
 use spec_olc::types::{Asking, Kind, Op, Outcome, Reply, Report};
 

@@ -3,7 +3,7 @@
 //! Tested in `tools/dev/try-schedules`.
 
 ghost use Rattle.std.specs.Prelude.{◌≡◌, None};
-ghost use Rattle.node_table.specs.TableNode.{seen};
+ghost use Rattle.spec_node.specs.TableNode.{seen};
 ghost use Rattle.spec_olc.specs.Meaning.{child_of, in_some, op_of};
 ghost use Rattle.spec_olc.specs.Calls.{IsPoint};
 ghost use Rattle.olc_state.specs.inner.Effects.{HasClosure};
@@ -12,12 +12,12 @@ ghost use Rattle.olc_decide.specs.inner.Judged.{IsExchange, IsJudgedExchange, Is
 ghost use Rattle.olc_decide.specs.inner.Leaf.{ChecksLeaf, IsAtPayload};
 
 use crate::finding::asking;
-use node_table::child::ChildRef;
 use olc_descend::looking::child_at;
 use olc_state::stage::{Path, Stage, Task};
 use olc_state::stepped::{Stepped, changed, decided, going, node_at, report};
 use olc_state::store::Store;
 use olc_state::tail::{Case, Large, NodePair, Small, Tail};
+use spec_node::child::ChildRef;
 use spec_olc::payload::HasMeaning;
 use spec_olc::types::{Kind, Op, Reply};
 

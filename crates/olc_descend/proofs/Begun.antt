@@ -3,7 +3,7 @@ use Rattle.std.proofs.Common.{◌≡◌, ℕ, List, length, drop, eqb, Bool, IsT
 use Rattle.std.proofs.lemmas.Bool.Decides.{Decides-eqb}
 use Rattle.std.specs.List.{starts_with}
 use Rattle.std.proofs.lemmas.Slice.Eq.{starts_is}
-use Rattle.node_table.specs.Key.{Begins}
+use Rattle.spec_node.specs.Key.{Begins}
 use Rattle.node_table.proofs.BeginLaws.{after, begins_by}
 
 pub starts : (p k : List ℕ) (r : Bool) → r ≡ starts_with eqb k p → IsTrue r ↔ Begins p k

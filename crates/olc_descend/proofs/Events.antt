@@ -2,8 +2,8 @@
 use Rattle.std.proofs.Common.{◌≡◌, ◌≢◌, ℕ, Bool, true, false, IsTrue, if◌then◌else◌, ◌↔◌, List, [], Option, Some, None, inl, inr, refl, subst, ap}
 use Rattle.spec_map.proofs.MapLaws.{lookup-put_same}
 use Rattle.spec_map.specs.Map.{lookup, put}
-use Rattle.node_table.specs.TableNode.{TableNode, Child}
-use Rattle.node_table.specs.declared.child.Child.TheVariants.{Payload, Node as below_at}
+use Rattle.spec_node.specs.TableNode.{TableNode, Child}
+use Rattle.spec_node.specs.declared.child.Child.TheVariants.{Payload, Node as below_at}
 use Rattle.spec_olc.specs.Calls.{IsPoint, Outline}
 use Rattle.spec_olc.specs.Kinds.{NextIs, DoesAs, CheckOutcome, IsAtWork, failed, report_of}
 use Rattle.spec_olc.specs.Local.{SharesNone, SeesPayloads}

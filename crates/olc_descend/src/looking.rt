@@ -4,8 +4,8 @@
 
 ghost use Rattle.std.specs.Prelude.{◌≡◌, ◌↔◌, IsTrue, Some, None, IsOk, IfOk, IfErr, IfSome, IfNone, length};
 ghost use Rattle.spec_map.specs.Map.{lookup};
-ghost use Rattle.node_table.specs.Key.{next_byte};
-ghost use Rattle.node_table.specs.TableNode.{seen};
+ghost use Rattle.spec_node.specs.Key.{next_byte};
+ghost use Rattle.spec_node.specs.TableNode.{seen};
 ghost use Rattle.spec_olc.specs.Calls.{IsPoint, bytes_of};
 ghost use Rattle.spec_olc.specs.Local.{SharesNone, payload_in};
 ghost use Rattle.spec_olc.specs.Meaning.{in_some, child_of, seen_of, outcome_of};
@@ -16,12 +16,12 @@ ghost use Rattle.olc_state.specs.inner.Meant.{meant_node, meant_record, meant_ta
 ghost use Rattle.olc_descend.specs.inner.Looked.{HasPayload, IsFull, IsLooking, IsUnseen, IsWholeRead};
 ghost use Rattle.olc_descend.specs.inner.Reads.{KnowsMeant, ReadsOnly};
 
-use node_table::child::{Child, ChildRef};
 use node_table::tree_node::TreeNode;
 use olc_state::stage::{Path, Stage, Task};
 use olc_state::stepped::{Stepped, has_word, node_at, refused, report, saw};
 use olc_state::store::Store;
 use spec_map::error::OOMError;
+use spec_node::child::{Child, ChildRef};
 use spec_olc::payload::HasMeaning;
 use spec_olc::types::{Kind, Op, Report, Seen};
 

@@ -3,7 +3,7 @@
 //! Tested in `congee_olc` and `tools/dev/try-schedules`.
 
 ghost use Rattle.std.specs.Prelude.{◌↔◌, IsTrue};
-ghost use Rattle.node_table.specs.Key.{Begins};
+ghost use Rattle.spec_node.specs.Key.{Begins};
 ghost use Rattle.spec_olc.specs.Calls.{bytes_of};
 ghost use Rattle.spec_olc.specs.declared.types.Env.{Env};
 ghost use Rattle.olc_state.specs.inner.Tables.{IsPlaced};

@@ -1,8 +1,8 @@
 -- A LOCKED LEAF HAS ANOTHER PAYLOAD under a key's byte, or none there.
 use Rattle.std.proofs.Common.{◌≡◌, ℕ, ◌^◌, ◌<◌, [], ◌∷◌, length, Option, Some, None, inl, inr, refl, sym, subst, ap, ◌∙◌}
 use Rattle.spec_map.specs.Map.{lookup}
-use Rattle.node_table.specs.TableNode.{TableNode, Child}
-use Rattle.node_table.specs.declared.child.Child.TheVariants.{Payload, Node as below_at}
+use Rattle.spec_node.specs.TableNode.{TableNode, Child}
+use Rattle.spec_node.specs.declared.child.Child.TheVariants.{Payload, Node as below_at}
 use Rattle.spec_olc.specs.Calls.{bytes_of}
 use Rattle.olc_state.specs.inner.World.{PlacedNode, NodeMap}
 use Rattle.olc_state.specs.inner.Tables.{byte_at, IsPlaced, NeedsHolder}

@@ -1,6 +1,6 @@
 -- A LEAF WITH ONE PAIR IS LINKED below a locked inner node, under a byte that had no child.
 use Rattle.std.proofs.Common.{◌≡◌, ℕ, ◌^◌, ◌<◌, [], ◌∷◌, length, Some, None, inl, inr, refl, sym, ap, ◌∙◌, arith}
-use Rattle.node_table.specs.declared.child.Child.TheVariants.{Payload, Node as below_at}
+use Rattle.spec_node.specs.declared.child.Child.TheVariants.{Payload, Node as below_at}
 use Rattle.spec_olc.specs.Calls.{bytes_of}
 use Rattle.olc_state.specs.inner.World.{PlacedNode, NodeMap, entry}
 use Rattle.olc_state.specs.inner.Tables.{byte_at, IsPlaced, NeedsHolder}

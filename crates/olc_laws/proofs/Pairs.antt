@@ -1,8 +1,8 @@
 -- HOW THE MAP CHANGES: no pair changes, or that of one key.
 use Rattle.std.proofs.Common.{◌≡◌, ◌≢◌, ℕ, ◌^◌, ◌<◌, List, length, ◌↔◌, inl, inr, sym, subst, ◌∙◌}
-use Rattle.node_table.specs.Key.{Begins, next_byte}
-use Rattle.node_table.specs.TableNode.{Child}
-use Rattle.node_table.specs.declared.child.Child.TheVariants.{Payload, Node as below_at}
+use Rattle.spec_node.specs.Key.{Begins, next_byte}
+use Rattle.spec_node.specs.TableNode.{Child}
+use Rattle.spec_node.specs.declared.child.Child.TheVariants.{Payload, Node as below_at}
 use Rattle.spec_olc.specs.Calls.{bytes_of}
 use Rattle.olc_state.specs.inner.World.{NodeMap}
 use Rattle.olc_state.specs.inner.Tables.{IsPlaced, Keeps}

@@ -1,6 +1,6 @@
 -- Lists of bytes that begin with others, and the bytes of keys.
 use Rattle.std.proofs.Common.{◌≡◌, ℕ, ◌+◌, ◌^◌, ◌<◌, ◌≤◌, Bool, true, false, List, [], ◌∷◌, ◌++◌, length, get_or, ◌⊎◌, inl, inr, sym, refl, ap, ◌∙◌, subst, arith, length-append, append-nil}
-use Rattle.node_table.specs.Key.{begins, Begins, next_byte, key_number}
+use Rattle.spec_node.specs.Key.{begins, Begins, next_byte, key_number}
 use Rattle.node_table.proofs.BeginLaws.{after, begins_append}
 use Rattle.node_table.proofs.KeyLaws.{goes_on, key_number_at, Begins-snoc}
 use Rattle.spec_olc.specs.Calls.{bytes_of}

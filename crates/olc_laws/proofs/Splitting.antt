@@ -5,9 +5,9 @@ use Rattle.std.proofs.lemmas.Bool.{cases_eq, ne_eqb}
 use Rattle.std.proofs.lemmas.Bool.Decides.{eqb_tells}
 use Rattle.spec_map.specs.Map.{lookup, put, Rises}
 use Rattle.spec_map.proofs.MapLaws.{lookup-put_same, lookup-put_other, Rises-put}
-use Rattle.node_table.specs.Key.{Begins, AreBytes, next_byte}
-use Rattle.node_table.specs.TableNode.{TableNode, Child}
-use Rattle.node_table.specs.declared.child.Child.TheVariants.{Payload, Node as below_at}
+use Rattle.spec_node.specs.Key.{Begins, AreBytes, next_byte}
+use Rattle.spec_node.specs.TableNode.{TableNode, Child}
+use Rattle.spec_node.specs.declared.child.Child.TheVariants.{Payload, Node as below_at}
 use Rattle.node_table.proofs.BeginLaws.{after}
 use Rattle.node_table.proofs.KeyLaws.{AreBytes-append_left}
 use Rattle.spec_olc.specs.Calls.{bytes_of}

@@ -2,9 +2,9 @@
 use Rattle.std.proofs.Common.{◌≡◌, ◌≢◌, ℕ, ◌<◌, ◌≤◌, List, [], ◌∷◌, ◌++◌, length, Some, None, ◌⊎◌, inl, inr, sym, subst, ap, ◌∙◌, arith}
 use Rattle.std.proofs.lemmas.Bool.Decides.{eqb_tells}
 use Rattle.spec_map.specs.Map.{lookup}
-use Rattle.node_table.specs.Key.{Begins, next_byte}
-use Rattle.node_table.specs.TableNode.{TableNode, Child}
-use Rattle.node_table.specs.declared.child.Child.TheVariants.{Payload, Node as below_at}
+use Rattle.spec_node.specs.Key.{Begins, next_byte}
+use Rattle.spec_node.specs.TableNode.{TableNode, Child}
+use Rattle.spec_node.specs.declared.child.Child.TheVariants.{Payload, Node as below_at}
 use Rattle.node_table.proofs.BeginLaws.{begins_itself}
 use Rattle.olc_state.proofs.Options.{some_same, none_some}
 use Rattle.olc_state.proofs.Ways.{length-begins, Begins-trans, longer-begins, slots_same}

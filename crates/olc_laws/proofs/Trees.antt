@@ -3,9 +3,9 @@ use Rattle.std.proofs.Common.{◌≡◌, ◌≢◌, ℕ, ◌≤◌, List, [], �
 use Rattle.std.proofs.lemmas.Bool.{eq-eqb, ne_eqb}
 use Rattle.node_base.specs.declared.base_node.NodeType.TheVariants.{N256}
 use Rattle.spec_map.specs.Map.{lookup, Rises}
-use Rattle.node_table.specs.Key.{Begins, AreBytes, next_byte}
-use Rattle.node_table.specs.TableNode.{TableNode}
-use Rattle.node_table.specs.declared.child.Child.TheVariants.{Payload, Node as below_at}
+use Rattle.spec_node.specs.Key.{Begins, AreBytes, next_byte}
+use Rattle.spec_node.specs.TableNode.{TableNode}
+use Rattle.spec_node.specs.declared.child.Child.TheVariants.{Payload, Node as below_at}
 use Rattle.spec_olc.specs.Lock.{IsFree, IsLocked, IsObsolete}
 use Rattle.olc_state.specs.inner.World.{NodeLifetime, is_private, is_linked, is_detached, is_retired, PlacedNode, NodeMap}
 use Rattle.olc_state.specs.inner.Tables.{IsLinked, IsBelow, IsPlaced, Keeps}

@@ -4,8 +4,8 @@ use Rattle.std.proofs.Common.{◌≡◌, ℕ, zero, suc, ◌+◌, ◌-◌, List,
 use Rattle.std.specs.List.{sum_by}
 use Rattle.spec_map.specs.Map.{lookup}
 use Rattle.node_table.specs.Table.{NodeInfo, node_at, node_info, nodes_at, nodes_in, nodes_of, nodes_under, pairs_at, IsTree}
-use Rattle.node_table.specs.TableNode.{TableNode, Child}
-use Rattle.node_table.specs.declared.child.Child.TheVariants.{Payload, Node as below_at}
+use Rattle.spec_node.specs.TableNode.{TableNode, Child}
+use Rattle.spec_node.specs.declared.child.Child.TheVariants.{Payload, Node as below_at}
 use Rattle.tree_path.specs.inner.Root.{depth}
 use Rattle.tree_path.proofs.PathEndLaws.{depth_is}
 use Rattle.spec_olc.specs.State.{State}

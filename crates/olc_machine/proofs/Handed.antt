@@ -1,7 +1,7 @@
 -- When a call is in flight, what a reader sees of it, and that a step has the same report.
 use Rattle.std.proofs.Common.{◌≡◌, ℕ, ◌<◌, ◌^◌, Bool, true, false, IsTrue, ◌↔◌, Option, Some, None, IsSome, inl, inr, refl, sym, subst, ap, ◌∙◌}
 use Rattle.spec_map.specs.Map.{Pairs, lookup}
-use Rattle.node_table.specs.TableNode.{TableNode}
+use Rattle.spec_node.specs.TableNode.{TableNode}
 use Rattle.spec_olc.specs.Calls.{outline_of}
 use Rattle.spec_olc.specs.Content.{IsContent}
 use Rattle.spec_olc.specs.Deciding.{IsContentStep}

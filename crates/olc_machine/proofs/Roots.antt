@@ -7,9 +7,9 @@ use Rattle.node_base.specs.declared.base_node.NodeType.TheVariants.{N256}
 use Rattle.spec_map.specs.Map.{Pairs, lookup, Rises}
 use Rattle.spec_map.proofs.MapLaws.{same_from_lookups}
 use Rattle.node_table.specs.Charge.{Charge, add_charge, Covers}
-use Rattle.node_table.specs.Key.{AreBytes}
-use Rattle.node_table.specs.TableNode.{TableNode, Child}
-use Rattle.node_table.specs.declared.child.Child.TheVariants.{Payload, Node as below_at}
+use Rattle.spec_node.specs.Key.{AreBytes}
+use Rattle.spec_node.specs.TableNode.{TableNode, Child}
+use Rattle.spec_node.specs.declared.child.Child.TheVariants.{Payload, Node as below_at}
 use Rattle.spec_olc.specs.Content.{IsStoredAt, IsContent}
 use Rattle.spec_olc.specs.Runs.{bare_root, fresh}
 use Rattle.spec_olc.specs.Meaning.{in_some}

@@ -7,12 +7,12 @@ use Rattle.std.proofs.lemmas.List.{append-nil}
 use Rattle.std.proofs.lemmas.List.Elements.{filter-append}
 use Rattle.std.proofs.lemmas.Bool.{lt-ltb, le-leb}
 use Rattle.spec_map.specs.Map.{Pairs, between}
-use Rattle.node_table.specs.Key.{low}
-use Rattle.node_table.specs.TableNode.{TableNode, Child, looked_at}
+use Rattle.spec_node.specs.Key.{low}
+use Rattle.spec_node.specs.TableNode.{TableNode, Child, looked_at}
 use Rattle.node_table.specs.Table.{NodeTable, node_at, pairs_under, pairs_of, pairs_at, IsTree, IsSubtree}
-use Rattle.node_table.specs.declared.child.Child.TheVariants.{Payload, Node}
-use Rattle.node_table.specs.declared.child.ChildRef.{ChildRef}
-use Rattle.node_table.specs.declared.child.ChildRef.TheVariants as borrowed
+use Rattle.spec_node.specs.declared.child.Child.TheVariants.{Payload, Node}
+use Rattle.spec_node.specs.declared.child.ChildRef.{ChildRef}
+use Rattle.spec_node.specs.declared.child.ChildRef.TheVariants as borrowed
 use Rattle.spec_olc.specs.Meaning.{child_of}
 use Rattle.olc_state.specs.declared.stage.Stored.{Stored}
 use Rattle.olc_state.specs.inner.Meant.{meant_node}

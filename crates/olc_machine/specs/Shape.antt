@@ -2,7 +2,7 @@
 use Rattle.std.specs.Prelude.{ℕ, zero, suc, List, [], Option, Some, None}
 use Rattle.spec_map.specs.Map.{lookup}
 use Rattle.node_table.specs.Table.{NodeInfo, nodes_in}
-use Rattle.node_table.specs.TableNode.{TableNode}
+use Rattle.spec_node.specs.TableNode.{TableNode}
 use Rattle.spec_olc.specs.State.{VersionedNode, State}
 
 module _ {M : Type 0} where

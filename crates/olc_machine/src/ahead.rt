@@ -1,9 +1,9 @@
 //! The first pair from a key on: a path through the tree that takes no memory.
 //!
-//! Tested in `congee_olc/machine`, `test_olc_tree` and `tools/dev/try-schedules`.
+//! Tested in `congee_olc/machine`, `test_olc` and `tools/dev/try-schedules`.
 
 ghost use Rattle.std.specs.Prelude.{◌≡◌};
-ghost use Rattle.node_table.specs.Key.{low};
+ghost use Rattle.spec_node.specs.Key.{low};
 ghost use Rattle.olc_state.specs.inner.Walks.{meant_nodes};
 ghost use Rattle.tree_walk.specs.Scan.{from_key, first_pair};
 ghost use Rattle.tree_walk.specs.inner.Scan.{HasSubtree, EachSubtree};
@@ -11,10 +11,10 @@ ghost use Rattle.olc_machine.specs.First.{meant_pair};
 ghost use Rattle.olc_machine.specs.inner.FirstByte.{IsFirstByte};
 
 use node_base::base_node::{BaseNode, Node};
-use node_table::child::ChildRef;
 use node_table::tree_node::TreeNode;
 use olc_state::stage::Stored;
 use slab::Slab;
+use spec_node::child::ChildRef;
 use spec_olc::payload::HasMeaning;
 
 // The byte from which on a node with this base may have keys that aren't below `start`; `first` is its least key.

@@ -1,6 +1,6 @@
 //! The statistics of a machine's tree: one walk over all reachable nodes, each counted on its level.
 //!
-//! Tested in `congee_olc/machine`, `test_olc_tree` and `tools/dev/try-schedules`.
+//! Tested in `congee_olc/machine`, `test_olc` and `tools/dev/try-schedules`.
 
 ghost use Rattle.std.specs.Prelude.{IfOk, OnOk, ◌≡◌, ◌-◌};
 ghost use Rattle.node_table.specs.Table.{IsSubtree};
@@ -17,12 +17,12 @@ ghost use Rattle.olc_machine.specs.Shape.{reachable};
 
 use node_base::base_node::Node;
 use node_stats::NodeStats;
-use node_table::child::ChildRef;
 use node_table::tree_node::TreeNode;
 use olc_state::stage::Stored;
 use olc_state::store::Store;
 use slab::Slab;
 use spec_map::error::OOMError;
+use spec_node::child::ChildRef;
 use spec_olc::payload::HasMeaning;
 use std::alloc::Global;
 

@@ -1,18 +1,18 @@
 //! The keys of a machine's tree, ascending: one walk over all reachable nodes.
 //!
-//! Tested in `congee_olc/machine`, `test_olc_tree` and `tools/dev/try-schedules`.
+//! Tested in `congee_olc/machine`, `test_olc` and `tools/dev/try-schedules`.
 
 ghost use Rattle.std.specs.Prelude.{◌≡◌, ◌++◌, map, OnOk};
 ghost use Rattle.olc_state.specs.inner.Walks.{meant_nodes};
 ghost use Rattle.tree_walk.specs.inner.Scan.{HasSubtree, EachSubtree};
 
 use node_base::base_node::Node;
-use node_table::child::ChildRef;
 use node_table::tree_node::TreeNode;
 use olc_state::stage::Stored;
 use slab::Slab;
 use spec_map::error::OOMError;
 use spec_map::traits::Word;
+use spec_node::child::ChildRef;
 use spec_olc::payload::HasMeaning;
 
 /// Adds the keys of the tree in a slot, read back from their numbers, to the end of a vector.

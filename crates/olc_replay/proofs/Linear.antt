@@ -4,7 +4,7 @@ use Rattle.std.proofs.lemmas.Bool.Decides.{eqb_tells}
 use Rattle.node_table.specs.Charge.{Charge}
 use Rattle.spec_map.proofs.MapLaws.{lookup-put_same, lookup-put_other, lookup-without_same}
 use Rattle.spec_map.specs.Map.{Pairs, IsMap, lookup, put}
-use Rattle.node_table.specs.TableNode.{TableNode}
+use Rattle.spec_node.specs.TableNode.{TableNode}
 use Rattle.spec_olc.proofs.Steps.{others_stay}
 use Rattle.spec_olc.specs.Calls.{IsPoint, Outline, asked_of, key_of, outline_of}
 use Rattle.spec_olc.specs.Content.{IsContent, IsCurrent, IsStoredAt}

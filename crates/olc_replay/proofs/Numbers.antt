@@ -3,7 +3,7 @@
 use Rattle.std.proofs.Common.{◌≡◌, ℕ, List, [], ◌∷◌, map, Option, Result, Ok, Err, refl, sym, subst, ap, ◌∙◌}
 use Rattle.spec_map.specs.Map.{Pairs}
 use Rattle.node_table.specs.inner.Kinds.{mapped}
-use Rattle.node_table.specs.TableNode.{Child}
+use Rattle.spec_node.specs.TableNode.{Child}
 use Rattle.spec_olc.specs.Kinds.{MayReclaim}
 use Rattle.spec_olc.specs.Meaning.{in_some, child_of, seen_of, op_of, asking_of, both_of, exchanged_of, meant_reply, outcome_of, env_of, meant}
 use Rattle.spec_olc.specs.declared.types.Asking.{Asking}

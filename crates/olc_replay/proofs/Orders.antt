@@ -2,7 +2,7 @@
 use Rattle.std.proofs.Common.{◌≡◌, ℕ, ◌+◌, ◌^◌, Bool, true, false, IsTrue, List, [], ◌∷◌, Option, Some, None, if◌then◌else◌, inl, inr, refl, sym, subst, ap, ◌∙◌}
 use Rattle.spec_map.proofs.MapLaws.{lookup-put_same, lookup-without_same}
 use Rattle.spec_map.specs.Map.{IsMap, lookup, put}
-use Rattle.node_table.specs.TableNode.{TableNode}
+use Rattle.spec_node.specs.TableNode.{TableNode}
 use Rattle.spec_olc.specs.Calls.{Outline, IsPoint, outline_of}
 use Rattle.spec_olc.specs.Kinds.{NextIs, CheckOutcome, ReadOutcome, AnswerOutcome, WriteOutcome, DoesAs, refusal, refused, failed, not_locked, unlocked, MayEnd}
 use Rattle.spec_olc.specs.Lists.{off}

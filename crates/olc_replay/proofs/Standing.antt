@@ -5,7 +5,7 @@ use Rattle.std.proofs.lemmas.Bool.{ne_eqb, eq-eqb}
 use Rattle.node_table.specs.Charge.{Charge}
 use Rattle.spec_map.proofs.MapLaws.{same_from_lookups}
 use Rattle.spec_map.specs.Map.{Pairs, lookup}
-use Rattle.node_table.specs.declared.child.Child.TheVariants.{Payload}
+use Rattle.spec_node.specs.declared.child.Child.TheVariants.{Payload}
 use Rattle.spec_olc.specs.Content.{IsContent}
 use Rattle.spec_olc.specs.Runs.{fresh, bare_root}
 use Rattle.spec_olc.specs.State.{State, VersionedNode}

@@ -7,11 +7,11 @@ ghost use Rattle.spec_olc.specs.Calls.{asked_of};
 ghost use Rattle.olc_state.specs.inner.Effects.{returned_at};
 ghost use Rattle.olc_replay.specs.inner.Played.{last_read};
 
-use node_table::child::Child;
 use olc_state::stage::Record;
+use spec_node::child::Child;
 use spec_olc::types::{Asking, Env, Kind, Op, Reply, Seen};
 
-/// The same call.
+/// A copy of the call.
 pub(crate) fn copy_op(op: &Op<u64>) -> Op<u64>
     ensures { result ≡ op.now }
 {
@@ -37,7 +37,7 @@ pub(crate) fn copy_returned(op: &Op<u64>) -> Option<u64>
     }
 }
 
-/// The same call, if it still has its payloads.
+/// A copy of the call, if it still has its payloads.
 pub(crate) fn copy_some_op(op: &Option<Op<u64>>) -> Option<Op<u64>>
     ensures { result ≡ op.now }
 {
@@ -57,7 +57,7 @@ fn copy_child(child: &Option<Child<u64>>) -> Option<Child<u64>>
     }
 }
 
-/// The same report of a Read.
+/// A copy of the report of a Read.
 pub(crate) fn copy_seen(seen: &Seen<u64>) -> Seen<u64>
     ensures { result ≡ seen.now }
 {
@@ -77,7 +77,7 @@ fn copy_some_seen(seen: &Option<Seen<u64>>) -> Option<Seen<u64>>
     }
 }
 
-/// The same choices for an event.
+/// A copy of the choices for an event.
 pub(crate) fn copy_env(env: &Env<u64>) -> Env<u64>
     ensures { result ≡ env.now }
 {
@@ -88,7 +88,7 @@ pub(crate) fn copy_env(env: &Env<u64>) -> Env<u64>
     }
 }
 
-/// The same reply.
+/// A copy of the reply.
 pub(crate) fn copy_reply(reply: &Reply<u64>) -> Reply<u64>
     ensures { result ≡ reply.now }
 {

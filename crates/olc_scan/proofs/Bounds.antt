@@ -6,7 +6,7 @@ use Rattle.std.proofs.lemmas.List.{drop-replicate, length-replicate}
 use Rattle.std.specs.Int.{from_be_bytes}
 use Rattle.spec_map.proofs.MapLaws.{lookup-below}
 use Rattle.spec_map.specs.Map.{Rises, between}
-use Rattle.node_table.specs.Key.{AreBytes, high, key_number, least, low, next_byte, room, span}
+use Rattle.spec_node.specs.Key.{AreBytes, high, key_number, least, low, next_byte, room, span}
 use Rattle.node_table.proofs.KeyLaws.{AreBytes-append, key_number-be_bytes}
 use Rattle.spec_olc.specs.Calls.{bytes_of}
 use Rattle.spec_olc.specs.Reading.{bound_at, first_from}

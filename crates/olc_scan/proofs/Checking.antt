@@ -1,7 +1,7 @@
 -- THE RULES OF A RANGE hold at a Check that passes, where the call looks from its reach on at the node that it checks.
 use Rattle.std.proofs.Common.{◌≡◌, ℕ, ◌<◌, ◌≤◌, ◌^◌, max, [], ◌∷◌, ◌++◌, Some, None, refl, arith}
-use Rattle.node_table.specs.Key.{low, high}
-use Rattle.node_table.specs.declared.child.Child.TheVariants.{Payload, Node as below_at}
+use Rattle.spec_node.specs.Key.{low, high}
+use Rattle.spec_node.specs.declared.child.Child.TheVariants.{Payload, Node as below_at}
 use Rattle.spec_olc.specs.Content.{IsStoredAt}
 use Rattle.spec_olc.specs.Reading.{first_from, bound_at, NoneIsStored}
 use Rattle.spec_olc.specs.State.{State}

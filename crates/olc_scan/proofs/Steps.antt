@@ -2,7 +2,7 @@
 use Rattle.std.proofs.Common.{◌≡◌, ◌≢◌, ℕ, ◌+◌, ◌<◌, ◌≤◌, ◌^◌, max, Bool, true, false, List, [], ◌∷◌, Option, Some, None, IsSome, ◌⊎◌, inl, inr, refl, sym, subst, ap, ◌∙◌, arith}
 use Rattle.spec_map.specs.Map.{lookup, put}
 use Rattle.spec_map.proofs.MapLaws.{lookup-put_same, lookup-put_other}
-use Rattle.node_table.specs.Key.{low, high}
+use Rattle.spec_node.specs.Key.{low, high}
 use Rattle.spec_olc.specs.Calls.{Outline}
 use Rattle.spec_olc.specs.Kinds.{DoesAs, report_of}
 use Rattle.spec_olc.specs.Content.{IsStoredAt}

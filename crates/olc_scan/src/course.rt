@@ -3,7 +3,7 @@
 //! Tested in `tools/dev/try-schedules` and `congee_olc/range_owners`.
 
 ghost use Rattle.std.specs.Prelude.{◌≡◌, ◌↔◌, ℕ, ◌+◌, ◌<◌, ◌≤◌, ◌^◌, IsTrue, [], ◌∷◌, ◌++◌, length};
-ghost use Rattle.node_table.specs.Key.{high, low, next_byte};
+ghost use Rattle.spec_node.specs.Key.{high, low, next_byte};
 ghost use Rattle.spec_olc.specs.Calls.{bytes_of};
 ghost use Rattle.spec_olc.specs.Reading.{HasAll, MayGive};
 ghost use Rattle.olc_state.specs.inner.Scans.{BeginsAt};

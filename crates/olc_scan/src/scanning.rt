@@ -4,8 +4,8 @@
 
 ghost use Rattle.std.specs.Prelude.{◌≡◌, ◌↔◌, ℕ, ◌+◌, ◌<◌, ◌≤◌, ◌^◌, max, List, IsTrue, [], ◌∷◌, ◌++◌, Some, None, IsSome, IfSome, IfNone, length};
 ghost use Rattle.spec_map.specs.Map.{between};
-ghost use Rattle.node_table.specs.Key.{high, low, next_byte};
-ghost use Rattle.node_table.specs.TableNode.{Child, looked_at, seen};
+ghost use Rattle.spec_node.specs.Key.{high, low, next_byte};
+ghost use Rattle.spec_node.specs.TableNode.{Child, looked_at, seen};
 ghost use Rattle.spec_olc.specs.Calls.{bytes_of};
 ghost use Rattle.spec_olc.specs.declared.types.Env.{Env};
 ghost use Rattle.olc_scan.specs.inner.Ranges.{IsLooked, IsPaired, IsPast, KnowsScan, ScansOn, after_scan, first_in, looked};
@@ -14,13 +14,13 @@ ghost use Rattle.olc_state.specs.inner.Tables.{IsPlaced};
 ghost use Rattle.olc_state.specs.inner.Tasks.{closed, restarted};
 
 use crate::course::{Scanned, byte_below, is_over, last_key, leaf_key, may_give};
-use node_table::child::ChildRef;
 use node_table::tree_node::TreeNode;
 use olc_descend::looking::{noted, shared};
 use olc_state::scan::{RangeProgress, Scan};
 use olc_state::stage::{Spot, Stage, Task};
 use olc_state::stepped::{Stepped, back as restart, has_word, node_at, refused as refuse, report};
 use olc_state::store::Store;
+use spec_node::child::ChildRef;
 use spec_olc::payload::HasMeaning;
 use spec_olc::types::{Kind, Outcome, Report, Seen};
 

@@ -3,9 +3,9 @@ use Rattle.std.proofs.Common.{◌≡◌, ◌≢◌, ℕ, ◌<◌, ◌≤◌, ◌
 use Rattle.std.proofs.lemmas.Bool.{cases_lt}
 use Rattle.spec_map.proofs.MapLaws.{lookup-put_same}
 use Rattle.spec_map.specs.Map.{lookup}
-use Rattle.node_table.specs.Key.{Begins}
-use Rattle.node_table.specs.TableNode.{Child}
-use Rattle.node_table.specs.declared.child.Child.TheVariants.{Payload, Node as below_at}
+use Rattle.spec_node.specs.Key.{Begins}
+use Rattle.spec_node.specs.TableNode.{Child}
+use Rattle.spec_node.specs.declared.child.Child.TheVariants.{Payload, Node as below_at}
 use Rattle.spec_olc.specs.Calls.{key_of}
 use Rattle.spec_olc.specs.Kinds.{DoesAs, report_of}
 use Rattle.spec_olc.specs.Lock.{IsFree}

@@ -9,7 +9,6 @@ ghost use Rattle.olc_state.specs.inner.Tables.{IsPlaced};
 ghost use Rattle.olc_descend.specs.inner.Reads.{KnowsMeant, ReadsOnly};
 ghost use Rattle.olc_seek.specs.inner.Sought.{IsFound};
 
-use node_table::child::ChildRef;
 use node_table::tree_node::TreeNode;
 use olc_descend::looking::child_at;
 use olc_state::cleanup::{Cleanup, Seek, Tidy};
@@ -17,6 +16,7 @@ use olc_state::stage::{Path, Spot, Stage, Task};
 use olc_state::stepped::{Stepped, forgets, going, has_word, node_at, report};
 use olc_state::store::Store;
 use olc_state::tail::NodePair;
+use spec_node::child::ChildRef;
 use spec_olc::payload::HasMeaning;
 use spec_olc::types::Kind;
 

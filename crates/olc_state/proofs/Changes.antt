@@ -3,7 +3,7 @@ use Rattle.std.proofs.Common.{◌≡◌, ◌≢◌, ℕ, List, length, None, inl
 use Rattle.std.proofs.lemmas.Bool.{cases_eq}
 use Rattle.spec_map.specs.Map.{Pairs, lookup, without}
 use Rattle.spec_map.proofs.MapLaws.{Rises-without, lookup-without_same, lookup-without_other, same_from_lookups}
-use Rattle.node_table.specs.TableNode.{Child}
+use Rattle.spec_node.specs.TableNode.{Child}
 use Rattle.spec_olc.specs.Content.{Reaches, at_root, by_child, HasEntry, IsStoredAt, IsContent}
 use Rattle.spec_olc.specs.State.{State}
 use Rattle.spec_olc.specs.State as state

@@ -6,9 +6,9 @@ use Rattle.node_base.specs.Form.{stated_size}
 use Rattle.spec_map.specs.Map.{lookup, with_answer, without, Rises}
 use Rattle.spec_map.proofs.MapLaws.{put-below, without-absent, lookup-below}
 use Rattle.node_table.specs.Charge.{Covers}
-use Rattle.node_table.specs.Key.{Begins}
-use Rattle.node_table.specs.TableNode.{TableNode, Child, MayHave}
-use Rattle.node_table.specs.declared.child.Child.TheVariants.{Payload, Node as below_at}
+use Rattle.spec_node.specs.Key.{Begins}
+use Rattle.spec_node.specs.TableNode.{TableNode, Child, MayHave}
+use Rattle.spec_node.specs.declared.child.Child.TheVariants.{Payload, Node as below_at}
 use Rattle.node_table.proofs.BeginLaws.{begins_append}
 use Rattle.spec_olc.specs.Content.{Reaches, HasEntry}
 use Rattle.spec_olc.specs.Lists.{is_in}

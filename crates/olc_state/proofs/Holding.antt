@@ -1,7 +1,7 @@
 -- The nodes that a call holds or has made.
 use Rattle.std.proofs.Common.{Bool, ◌≡◌, ℕ, ◌+◌, IsTrue, List, [], ◌∷◌, Some, None, inl, inr, refl, subst, ap, arith}
 use Rattle.std.proofs.lemmas.Bool.{false≢true, ne_eqb, cases_eq}
-use Rattle.node_table.specs.TableNode.{TableNode}
+use Rattle.spec_node.specs.TableNode.{TableNode}
 use Rattle.spec_olc.specs.Lists.{is_in}
 use Rattle.spec_olc.specs.State.{published}
 use Rattle.spec_olc.specs.Lock.{IsFree, IsLocked, IsObsolete}

@@ -4,8 +4,8 @@ use Rattle.std.proofs.lemmas.Nat.{be_bytes_8, from_be_bytes-to_be_bytes_8}
 use Rattle.std.proofs.lemmas.Bool.Decides.{eqb_tells}
 use Rattle.std.proofs.lemmas.Bool.{ne_eqb}
 use Rattle.spec_map.specs.Map.{lookup, Rises}
-use Rattle.node_table.specs.Key.{Begins, AreBytes, low, key_number, span, room, least}
-use Rattle.node_table.specs.declared.child.Child.TheVariants.{Payload, Node as below_at}
+use Rattle.spec_node.specs.Key.{Begins, AreBytes, low, key_number, span, room, least}
+use Rattle.spec_node.specs.declared.child.Child.TheVariants.{Payload, Node as below_at}
 use Rattle.node_table.proofs.KeyLaws.{goes_on, key_number_at, key_number-be_bytes, least-bound, room-positive, AreBytes-append}
 use Rattle.node_table.proofs.BeginLaws.{begins_append}
 use Rattle.spec_olc.specs.Calls.{bytes_of}

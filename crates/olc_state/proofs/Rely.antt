@@ -2,9 +2,9 @@
 use Rattle.std.proofs.Common.{◌≡◌, ℕ, ◌+◌, ◌<◌, ◌≤◌, max, Bool, List, [], ◌∷◌, length, Option, Some, None, IsTrue, ◌↔◌, inl, inr, refl, sym, subst, ap, ◌∙◌, arith}
 use Rattle.node_base.specs.Form.{Fits}
 use Rattle.spec_map.specs.Map.{lookup}
-use Rattle.node_table.specs.Key.{Begins, high, low, next_byte}
-use Rattle.node_table.specs.TableNode.{TableNode, Child}
-use Rattle.node_table.specs.declared.child.Child.TheVariants.{Payload, Node as below_at}
+use Rattle.spec_node.specs.Key.{Begins, high, low, next_byte}
+use Rattle.spec_node.specs.TableNode.{TableNode, Child}
+use Rattle.spec_node.specs.declared.child.Child.TheVariants.{Payload, Node as below_at}
 use Rattle.spec_olc.specs.Lock.{IsFree}
 use Rattle.spec_olc.specs.Calls.{key_of}
 use Rattle.spec_olc.specs.Lists.{is_in}

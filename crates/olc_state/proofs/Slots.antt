@@ -6,8 +6,8 @@ use Rattle.slab.specs.Slab.{get, with_value, Updates}
 use Rattle.node_base.specs.Form.{Fits, stated_size}
 use Rattle.spec_map.specs.Map.{lookup, put, without}
 use Rattle.node_table.proofs.KindLaws.{length-mapped, lookup-mapped_none, put-mapped, without-mapped}
-use Rattle.node_table.specs.TableNode.{TableNode, Child, seen}
-use Rattle.node_table.specs.declared.child.ChildRef.{ChildRef}
+use Rattle.spec_node.specs.TableNode.{TableNode, Child, seen}
+use Rattle.spec_node.specs.declared.child.ChildRef.{ChildRef}
 use Rattle.spec_olc.specs.Meaning.{child_of, in_some}
 use Rattle.olc_words.specs.Epoch.{ChangesLife, admitted, entry_at, life_of}
 use Rattle.olc_words.specs.declared.epoch.Life.{Life}

@@ -4,11 +4,11 @@ use Rattle.std.proofs.lemmas.List.{append-nil}
 use Rattle.spec_map.specs.Map.{Pairs, lookup, between}
 use Rattle.spec_map.proofs.MapLaws.{lookup-between_inside}
 use Rattle.spec_map.proofs.RangeLaws.{between-all}
-use Rattle.node_table.specs.Key.{low}
-use Rattle.node_table.specs.TableNode.{TableNode, Child}
+use Rattle.spec_node.specs.Key.{low}
+use Rattle.spec_node.specs.TableNode.{TableNode, Child}
 use Rattle.node_table.specs.Table.{NodeTable, node_at, pairs_in, pairs_under, pairs_of, pairs_at, IsChild, IsTree, IsSubtree}
 use Rattle.node_table.specs.inner.Kinds.{mapped}
-use Rattle.node_table.specs.declared.child.Child.TheVariants.{Payload, Node}
+use Rattle.spec_node.specs.declared.child.Child.TheVariants.{Payload, Node}
 use Rattle.node_table.proofs.KindLaws.{between-mapped}
 use Rattle.node_table.proofs.TableLaws.{open_subtree, IsChild-found}
 use Rattle.spec_olc.specs.Meaning.{in_some, child_of}

@@ -3,11 +3,11 @@ use Rattle.std.proofs.Common.{◌≡◌, ℕ, zero, suc, ◌+◌, ◌-◌, ◌�
 use Rattle.std.proofs.lemmas.Bool.{eq-eqb, ne_eqb, cases_eq}
 use Rattle.spec_map.specs.Map.{Pairs, lookup, Rises}
 use Rattle.spec_map.proofs.MapLaws.{lookup-next}
-use Rattle.node_table.specs.Key.{Begins, AreBytes, low, key_number}
-use Rattle.node_table.specs.TableNode.{TableNode, Child}
+use Rattle.spec_node.specs.Key.{Begins, AreBytes, low, key_number}
+use Rattle.spec_node.specs.TableNode.{TableNode, Child}
 use Rattle.node_table.specs.Table.{node_at, pairs_in, pairs_under, pairs_of, pairs_at, IsChild, AreChildren, IsTree, IsSubtree}
 use Rattle.node_table.specs.inner.Kinds.{mapped}
-use Rattle.node_table.specs.declared.child.Child.TheVariants.{Payload, Node as below_at}
+use Rattle.spec_node.specs.declared.child.Child.TheVariants.{Payload, Node as below_at}
 use Rattle.node_table.proofs.TableLaws.{tree_rises, open_subtree, IsChild-found, lookup-at_payload, lookup-at_node}
 use Rattle.spec_olc.specs.Calls.{bytes_of}
 use Rattle.spec_olc.specs.Content.{Reaches, at_root, by_child, IsStoredAt, IsContent}

@@ -1,9 +1,9 @@
 -- What a checked read proves about the map.
 use Rattle.std.proofs.Common.{◌≡◌, ℕ, zero, suc, ◌+◌, ◌<◌, ◌≤◌, Bool, true, false, List, [], ◌∷◌, ◌++◌, length, get_or, Some, None, ◌⊎◌, inl, inr, sym, ap, refl, ◌∙◌, subst, arith, length-append, append_assoc}
-use Rattle.node_table.specs.Key.{Begins}
+use Rattle.spec_node.specs.Key.{Begins}
 use Rattle.node_table.proofs.BeginLaws.{after, begins_by}
-use Rattle.node_table.specs.TableNode.{Child}
-use Rattle.node_table.specs.declared.child.Child.TheVariants.{Payload, Node as below_at}
+use Rattle.spec_node.specs.TableNode.{Child}
+use Rattle.spec_node.specs.declared.child.Child.TheVariants.{Payload, Node as below_at}
 use Rattle.spec_olc.specs.Lock.{IsFree}
 use Rattle.olc_state.specs.inner.World.{PlacedNode, NodeMap, NodeLifetime, entry}
 use Rattle.olc_state.specs.inner.Tables.{IsSafe, byte_at, IsLinked, IsBelow, LeadsOn, IsPlaced, Keeps, Known, IsThere, LedTo, OnPath, TestOf}

@@ -3,7 +3,7 @@
 //! Tested in `congee_olc` and `tools/dev/try-schedules`.
 
 ghost use Rattle.std.specs.Prelude.{◌≡◌, [], ◌∷◌, ◌++◌, length, IfOk, OnOk};
-ghost use Rattle.node_table.specs.Key.{low};
+ghost use Rattle.spec_node.specs.Key.{low};
 ghost use Rattle.node_table.specs.inner.Kinds.{mapped};
 ghost use Rattle.spec_olc.specs.Content.{IsContent};
 ghost use Rattle.spec_olc.specs.State.{State};
@@ -14,9 +14,9 @@ ghost use Rattle.olc_state.specs.inner.Walks.{IsTop, AddsPairs};
 
 use crate::stage::Stored;
 use crate::store::Store;
-use node_table::child::ChildRef;
 use slab::Slab;
 use spec_map::error::OOMError;
+use spec_node::child::ChildRef;
 use spec_olc::payload::HasMeaning;
 use std::alloc::Global;
 

@@ -64,7 +64,7 @@ pub enum Stage {
     Scan(RangeProgress, Scan),
     /// A call with its reply that cleans up: for which node, and what it does next on its way down.
     Seek(Cleanup, Seek),
-    /// The same at the node.
+    /// A call with its reply that cleans up: for which node, and what it does next at that node.
     Tidy(Cleanup, Tidy),
     Finish,
 }

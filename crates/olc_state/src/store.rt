@@ -6,7 +6,7 @@ ghost use Rattle.std.specs.Prelude.{◌≡◌, ◌≢◌, ◌⊎◌, ◌+◌, �
 ghost use Rattle.slab.specs.Slab.{get};
 ghost use Rattle.node_base.specs.Form.{Fits, stated_size};
 ghost use Rattle.spec_map.specs.Map.{lookup, put, without};
-ghost use Rattle.node_table.specs.TableNode.{MayHave};
+ghost use Rattle.spec_node.specs.TableNode.{MayHave};
 ghost use Rattle.spec_olc.specs.Meaning.{child_of, in_some};
 ghost use Rattle.olc_state.specs.inner.Facts.{stored_sizes, AllAdmitted};
 ghost use Rattle.olc_state.specs.inner.Meant.{meant_node, meant_table};
@@ -18,12 +18,12 @@ ghost use Rattle.olc_words.specs.declared.epoch.Life.TheVariants.{InUse};
 ghost use Rattle.spec_olc.specs.Lock.{IsLocked, IsObsolete};
 
 use crate::stage::{NodeLife, Stored};
-use node_table::child::Child;
 use node_table::tree_node::TreeNode;
 use olc_words::epoch::Pins;
 use olc_words::lock::Word64;
 use slab::Slab;
 use spec_map::error::OOMError;
+use spec_node::child::Child;
 use spec_olc::payload::HasMeaning;
 
 /// The nodes in their slots, the root's slot, and the pins of the calls that may step on them.

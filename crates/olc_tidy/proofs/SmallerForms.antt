@@ -4,7 +4,7 @@ use Rattle.node_base.specs.Form.{Fits, few_in, smaller_form}
 use Rattle.node_base.specs.declared.base_node.NodeType.{NodeType}
 use Rattle.node_base.specs.declared.base_node.NodeType.TheVariants.{N4, N16, N48, N256}
 use Rattle.spec_map.specs.Map.{Rises}
-use Rattle.node_table.specs.TableNode.{TableNode, Child}
+use Rattle.spec_node.specs.TableNode.{TableNode, Child}
 use Rattle.node_table.specs.inner.Kinds.{mapped}
 use Rattle.node_table.proofs.KindLaws.{length-mapped}
 use Rattle.spec_olc.specs.Meaning.{child_of}

@@ -3,8 +3,8 @@ use Rattle.std.proofs.Common.{◌≡◌, ◌≢◌, ℕ, ◌≤◌, Bool, true, 
 use Rattle.node_table.specs.Charge.{Charge}
 use Rattle.node_base.specs.Form.{few_in}
 use Rattle.spec_map.specs.Map.{Rises, lookup}
-use Rattle.node_table.specs.Key.{Begins}
-use Rattle.node_table.specs.TableNode.{MayHave, TableNode, Child}
+use Rattle.spec_node.specs.Key.{Begins}
+use Rattle.spec_node.specs.TableNode.{MayHave, TableNode, Child}
 use Rattle.node_table.proofs.KindLaws.{length-mapped}
 use Rattle.spec_olc.specs.Kinds.{refusal, refused, report_of}
 use Rattle.spec_olc.specs.Meaning.{child_of, env_of}

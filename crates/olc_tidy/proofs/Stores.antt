@@ -3,8 +3,8 @@ use Rattle.std.proofs.Common.{◌≡◌, ◌≢◌, ℕ, ◌<◌, ◌≤◌, Boo
 use Rattle.node_table.specs.Charge.{Charge}
 use Rattle.node_base.specs.Form.{few_in}
 use Rattle.node_table.proofs.KindLaws.{length-mapped}
-use Rattle.node_table.specs.TableNode.{TableNode}
-use Rattle.node_table.specs.declared.child.Child.TheVariants.{Node as below_at}
+use Rattle.spec_node.specs.TableNode.{TableNode}
+use Rattle.spec_node.specs.declared.child.Child.TheVariants.{Node as below_at}
 use Rattle.node_table.specs.inner.Kinds.{mapped}
 use Rattle.spec_map.specs.Map.{lookup, put, without}
 use Rattle.spec_olc.specs.Calls.{bytes_of, key_of}

@@ -3,8 +3,8 @@
 use Rattle.std.proofs.Common.{◌≡◌, ◌≢◌, ℕ, ◌+◌, ◌^◌, ◌<◌, ◌≤◌, Bool, true, false, IsTrue, List, [], ◌∷◌, length, Option, Some, None, inl, inr, refl, sym, subst, ap, ◌∙◌, arith}
 use Rattle.node_base.specs.Form.{Fits, few_in}
 use Rattle.spec_map.specs.Map.{lookup, put}
-use Rattle.node_table.specs.TableNode.{MayHave, TableNode, Child}
-use Rattle.node_table.specs.declared.child.Child.TheVariants.{Node as below_at}
+use Rattle.spec_node.specs.TableNode.{MayHave, TableNode, Child}
+use Rattle.spec_node.specs.declared.child.Child.TheVariants.{Node as below_at}
 use Rattle.spec_olc.specs.Calls.{key_of, stored}
 use Rattle.spec_olc.specs.Due.{IsDue, IsLeft}
 use Rattle.spec_olc.specs.Kinds.{DoesAs, report_of}

@@ -10,7 +10,6 @@ ghost use Rattle.olc_state.specs.inner.World.{PlacedNode};
 ghost use Rattle.olc_tidy.specs.inner.Tidying.{IsLeftAgain, KnowsTidy, TidyMoves};
 
 use node_table::allocator::Allocator;
-use node_table::child::Child;
 use olc_state::cleanup::{Cleanup, Tidy};
 use olc_state::stage::{Stage, Task};
 use olc_state::stepped::{Stepped, going, report};
@@ -19,6 +18,7 @@ use olc_state::store::Store;
 use olc_state::tail::{NodePair, Tail};
 use olc_write::leaving::left_at;
 use olc_write::linking::byte_below;
+use spec_node::child::Child;
 use spec_olc::payload::HasMeaning;
 use spec_olc::types::Kind;
 

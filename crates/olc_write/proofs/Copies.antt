@@ -9,9 +9,9 @@ use Rattle.node_base.specs.declared.base_node.NodeType.TheVariants.{N4, N16, N48
 use Rattle.spec_map.specs.Map.{Rises, lookup, put}
 use Rattle.spec_map.proofs.MapLaws.{lookup-put_same, lookup-put_other, Rises-put}
 use Rattle.spec_map.proofs.ByteMapLaws.{length-put_new}
-use Rattle.node_table.specs.Key.{AreBytes, Begins, IsFirstDifference, next_byte}
-use Rattle.node_table.specs.TableNode.{MayHave, TableNode, Child}
-use Rattle.node_table.specs.declared.child.Child.TheVariants.{Payload, Node as below_at}
+use Rattle.spec_node.specs.Key.{AreBytes, Begins, IsFirstDifference, next_byte}
+use Rattle.spec_node.specs.TableNode.{MayHave, TableNode, Child}
+use Rattle.spec_node.specs.declared.child.Child.TheVariants.{Payload, Node as below_at}
 use Rattle.node_table.proofs.BeginLaws.{begins_by}
 use Rattle.spec_olc.specs.Calls.{key_of}
 use Rattle.node_table.specs.inner.Kinds.{mapped}

@@ -9,8 +9,8 @@ use Rattle.spec_map.specs.Map.{Rises, between, lookup, put}
 use Rattle.spec_map.proofs.JoinLaws.{lookup-above}
 use Rattle.spec_map.proofs.MapLaws.{Rises-between, Rises-put, lookup-between_inside, lookup-between_outside, lookup-below, lookup-put_same, lookup-put_other, same_from_lookups}
 use Rattle.spec_map.proofs.ByteMapLaws.{length-put_new}
-use Rattle.node_table.specs.TableNode.{MayHave, TableNode, Child}
-use Rattle.node_table.specs.declared.child.Child.TheVariants.{Payload, Node as below_at}
+use Rattle.spec_node.specs.TableNode.{MayHave, TableNode, Child}
+use Rattle.spec_node.specs.declared.child.Child.TheVariants.{Payload, Node as below_at}
 use Rattle.node_table.specs.inner.Kinds.{mapped}
 use Rattle.node_table.proofs.KindLaws.{between-mapped, length-mapped, lookup-mapped_none, mapped-absent, put-mapped, Rises-mapped}
 use Rattle.spec_olc.specs.Meaning.{child_of}

@@ -6,8 +6,8 @@ use Rattle.spec_map.specs.Legal.{reply_of as reply_by}
 use Rattle.spec_map.specs.Map.{Pairs, IsMap, Rises, lookup, put, with_answer}
 use Rattle.spec_map.proofs.ByteMapLaws.{length-put_new, length-put_some, length-without_present}
 use Rattle.spec_map.proofs.MapLaws.{Rises-put, lookup-put_same, lookup-put_other, without-absent}
-use Rattle.node_table.specs.TableNode.{Child, MayHave}
-use Rattle.node_table.specs.declared.child.Child.TheVariants.{Payload, Node as below_at}
+use Rattle.spec_node.specs.TableNode.{Child, MayHave}
+use Rattle.spec_node.specs.declared.child.Child.TheVariants.{Payload, Node as below_at}
 use Rattle.spec_olc.specs.Calls.{Outline, asked_of, bytes_of, key_of, map_asked, map_call, map_reply}
 use Rattle.spec_olc.specs.Content.{IsContent}
 use Rattle.spec_olc.specs.Deciding.{AppliesCall}

@@ -5,9 +5,9 @@ use Rattle.node_base.specs.Form.{Fits, Within, limit}
 use Rattle.spec_map.specs.Map.{Rises, with_answer, without}
 use Rattle.spec_map.proofs.ByteMapLaws.{length-without_present}
 use Rattle.spec_map.proofs.MapLaws.{without-absent}
-use Rattle.node_table.specs.Key.{Begins}
-use Rattle.node_table.specs.TableNode.{Child, MayHave}
-use Rattle.node_table.specs.declared.child.Child.TheVariants.{Payload, Node as below_at}
+use Rattle.spec_node.specs.Key.{Begins}
+use Rattle.spec_node.specs.TableNode.{Child, MayHave}
+use Rattle.spec_node.specs.declared.child.Child.TheVariants.{Payload, Node as below_at}
 use Rattle.spec_olc.specs.Calls.{key_of, stored}
 use Rattle.spec_olc.specs.Kinds.{report_of}
 use Rattle.spec_olc.specs.Local.{payload_in}

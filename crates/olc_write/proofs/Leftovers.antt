@@ -1,8 +1,8 @@
 -- WHAT A WRITE LEAVES TO CLEAN UP, and how many events that may take.
 use Rattle.std.proofs.Common.{◌≡◌, ◌≤◌, Bool, true, false, is_some, length, Option, Some, None, IsTrue, refl, sym, subst, ◌∙◌, arith}
 use Rattle.node_base.specs.Form.{few_in}
-use Rattle.node_table.specs.TableNode.{TableNode}
-use Rattle.node_table.specs.declared.child.Child.TheVariants.{Payload}
+use Rattle.spec_node.specs.TableNode.{TableNode}
+use Rattle.spec_node.specs.declared.child.Child.TheVariants.{Payload}
 use Rattle.spec_olc.specs.Alone.{may_remove}
 use Rattle.spec_olc.specs.Calls.{Outline, or_else, outline_of}
 use Rattle.spec_olc.specs.Due.{IsLeft}

@@ -6,9 +6,9 @@ use Rattle.node_table.specs.Charge.{Charge}
 use Rattle.node_base.specs.Form.{Fits, next_form}
 use Rattle.node_base.specs.declared.base_node.NodeType.TheVariants.{N4}
 use Rattle.spec_map.specs.Map.{lookup, put}
-use Rattle.node_table.specs.Key.{Begins, next_byte}
-use Rattle.node_table.specs.TableNode.{MayHave, TableNode, Child}
-use Rattle.node_table.specs.declared.child.Child.TheVariants.{Payload, Node as below_at}
+use Rattle.spec_node.specs.Key.{Begins, next_byte}
+use Rattle.spec_node.specs.TableNode.{MayHave, TableNode, Child}
+use Rattle.spec_node.specs.declared.child.Child.TheVariants.{Payload, Node as below_at}
 use Rattle.node_table.proofs.KindLaws.{length-mapped, lookup-mapped_some, mapped-absent}
 use Rattle.spec_olc.specs.Kinds.{report_of}
 use Rattle.spec_olc.specs.Lists.{is_in}

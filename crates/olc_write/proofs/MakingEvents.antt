@@ -1,7 +1,7 @@
 -- A Make as the code makes it, granted and refused.
 use Rattle.std.proofs.Common.{◌≡◌, ℕ, ◌<◌, ◌≤◌, ◌^◌, Bool, true, List, [], ◌∷◌, length, Option, Some, None, inl, refl, sym, subst, ap, ◌∙◌, arith}
 use Rattle.node_table.specs.Charge.{Charge}
-use Rattle.node_table.specs.TableNode.{TableNode}
+use Rattle.spec_node.specs.TableNode.{TableNode}
 use Rattle.spec_olc.specs.Calls.{key_of}
 use Rattle.spec_olc.specs.Kinds.{refusal, refused, report_of}
 use Rattle.spec_olc.specs.Meaning.{env_of}

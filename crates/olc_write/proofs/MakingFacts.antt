@@ -1,7 +1,7 @@
 -- What a call knows after a Make, and after one that is refused.
 use Rattle.std.proofs.Common.{Bool, IsSome, ◌≡◌, ◌≢◌, ℕ, List, Option, Some, None, refl, sym, subst, ap, ◌∙◌}
 use Rattle.node_table.specs.Charge.{Charge}
-use Rattle.node_table.specs.TableNode.{TableNode, Child}
+use Rattle.spec_node.specs.TableNode.{TableNode, Child}
 use Rattle.spec_olc.specs.Calls.{IsPoint}
 use Rattle.spec_olc.specs.Local.{payload_in}
 use Rattle.olc_state.specs.declared.stage.Spot.{Spot}

@@ -6,7 +6,7 @@ use Rattle.std.proofs.lemmas.Bool.Decides.{eqb_tells}
 use Rattle.node_base.specs.Form.{stated_size}
 use Rattle.spec_map.specs.Map.{Pairs, lookup, put, IsMap}
 use Rattle.node_table.specs.Charge.{Charge, add_charge}
-use Rattle.node_table.specs.TableNode.{TableNode}
+use Rattle.spec_node.specs.TableNode.{TableNode}
 use Rattle.spec_olc.specs.Deciding.{ContentAfter}
 use Rattle.spec_olc.specs.Kinds.{IsAtWork, MayMake, report_of, refusal, refused}
 use Rattle.spec_olc.specs.Lists.{is_in, without_all}

@@ -4,7 +4,7 @@ use Rattle.std.proofs.lemmas.Bool.Decides.{eqb_tells}
 use Rattle.node_base.specs.Form.{stated_size}
 use Rattle.node_base.specs.declared.base_node.NodeType.{NodeType}
 use Rattle.node_table.specs.Charge.{Charge, Covers, add_charge}
-use Rattle.node_table.specs.TableNode.{TableNode}
+use Rattle.spec_node.specs.TableNode.{TableNode}
 use Rattle.olc_state.specs.declared.stock.Stock.{Stock}
 use Rattle.olc_state.specs.inner.Facts.{AllAdmitted, stored_sizes}
 use Rattle.olc_state.specs.inner.Slots.{SetsNode, made_node}

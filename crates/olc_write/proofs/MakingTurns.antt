@@ -1,7 +1,7 @@
 -- The four Makes, each granted and refused, from what their call knows and from what was built.
 use Rattle.std.proofs.Common.{◌≡◌, ℕ, Bool, true, [], ◌∷◌, Option, Some, None, IfSome, inr, refl, sym, subst, arith}
 use Rattle.node_table.specs.Charge.{Charge}
-use Rattle.node_table.specs.TableNode.{TableNode}
+use Rattle.spec_node.specs.TableNode.{TableNode}
 use Rattle.spec_olc.specs.Kinds.{report_of}
 use Rattle.spec_olc.specs.Writing.{IsNewNode}
 use Rattle.spec_olc.specs.declared.types.Env.{Env}

@@ -5,7 +5,7 @@ use Rattle.std.proofs.lemmas.Bool.Decides.{eqb_tells}
 use Rattle.node_base.specs.Form.{Fits}
 use Rattle.spec_map.specs.Map.{IsMap, lookup, put}
 use Rattle.spec_map.proofs.ByteMapLaws.{length-put_some}
-use Rattle.node_table.specs.declared.child.Child.TheVariants.{Node as below_at}
+use Rattle.spec_node.specs.declared.child.Child.TheVariants.{Node as below_at}
 use Rattle.spec_olc.specs.Calls.{key_of}
 use Rattle.spec_olc.specs.Kinds.{DoesAs, report_of}
 use Rattle.spec_olc.specs.Lists.{is_in}

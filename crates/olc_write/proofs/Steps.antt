@@ -4,7 +4,7 @@ use Rattle.std.proofs.Common.{◌≡◌, ◌≢◌, ℕ, ◌+◌, ◌≤◌, ◌
 use Rattle.node_table.specs.Charge.{Charge}
 use Rattle.node_base.specs.Form.{Fits}
 use Rattle.spec_map.specs.Map.{lookup, put}
-use Rattle.node_table.specs.declared.child.Child.TheVariants.{Node as below_at}
+use Rattle.spec_node.specs.declared.child.Child.TheVariants.{Node as below_at}
 use Rattle.spec_olc.specs.Calls.{bytes_of, key_of}
 use Rattle.spec_olc.specs.Kinds.{report_of}
 use Rattle.spec_olc.specs.Meaning.{env_of, in_some, meant_reply}

@@ -3,7 +3,7 @@ use Rattle.std.proofs.Common.{◌≡◌, ◌≢◌, ℕ, ◌+◌, ◌<◌, Bool,
 use Rattle.std.proofs.lemmas.Bool.Decides.{eqb_tells}
 use Rattle.spec_map.specs.Map.{lookup}
 use Rattle.spec_map.proofs.MapLaws.{lookup-put_same, lookup-put_other}
-use Rattle.node_table.specs.Key.{Begins}
+use Rattle.spec_node.specs.Key.{Begins}
 use Rattle.spec_olc.specs.Kinds.{report_of}
 use Rattle.spec_olc.specs.declared.types.Env.{Env}
 use Rattle.spec_olc.specs.declared.types.Kind.TheVariants as kind

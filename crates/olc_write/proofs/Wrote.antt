@@ -3,8 +3,8 @@ use Rattle.std.proofs.Common.{◌≡◌, ◌≢◌, ℕ, ◌+◌, ◌≤◌, Boo
 use Rattle.node_table.specs.Charge.{Charge}
 use Rattle.node_base.specs.Form.{Fits}
 use Rattle.spec_map.specs.Map.{put}
-use Rattle.node_table.specs.TableNode.{Child}
-use Rattle.node_table.specs.declared.child.Child.TheVariants.{Payload, Node as below_at}
+use Rattle.spec_node.specs.TableNode.{Child}
+use Rattle.spec_node.specs.declared.child.Child.TheVariants.{Payload, Node as below_at}
 use Rattle.node_table.proofs.KindLaws.{length-mapped}
 use Rattle.spec_olc.specs.Calls.{answer_in, asked_of, key_of, stored}
 use Rattle.spec_olc.specs.Kinds.{report_of}

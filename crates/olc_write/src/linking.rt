@@ -19,12 +19,12 @@ ghost use Rattle.olc_write.specs.inner.Storing.{entries_with, with_payload};
 use crate::leaving::left_by;
 use crate::storing::take_stored;
 use node_table::allocator::Allocator;
-use node_table::child::Child;
 use olc_state::stage::{Spot, Stage, Task};
 use olc_state::stepped::{Stepped, changed, node_at, report};
 use olc_state::stock::Stock;
 use olc_state::store::Store;
 use olc_state::tail::Tail;
+use spec_node::child::Child;
 use spec_olc::payload::HasMeaning;
 use spec_olc::types::Kind;
 

@@ -13,12 +13,12 @@ ghost use Rattle.olc_state.specs.inner.World.{PlacedNode, is_linked};
 
 use crate::linking::byte_below;
 use node_table::allocator::Allocator;
-use node_table::child::Child;
 use olc_state::stage::{Stage, Task};
 use olc_state::stepped::{Stepped, changed, report};
 use olc_state::stock::Stock;
 use olc_state::store::Store;
 use olc_state::tail::{NodePair, Tail};
+use spec_node::child::Child;
 use spec_olc::payload::HasMeaning;
 use spec_olc::types::Kind;
 

@@ -1,6 +1,6 @@
 //! How a decided call changes the number of pairs.
 //!
-//! Tested in `share_maps` and `test_share_hostile`.
+//! Tested in `share_maps` and `test_share_guards`.
 
 ghost use Rattle.std.specs.Prelude.{◌≡◌};
 ghost use Rattle.share_backend.specs.Changing.{change_of};

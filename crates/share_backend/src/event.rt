@@ -1,6 +1,6 @@
 //! The event of a call.
 //!
-//! Tested in `share_maps` and `test_share_hostile`.
+//! Tested in `share_maps` and `test_share_guards`.
 
 use spec_olc::types::{Outcome, Report};
 

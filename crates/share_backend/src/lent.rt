@@ -1,6 +1,6 @@
 //! The interface of a map under a lock: its calls are made of events, and known by numbers.
 //!
-//! Tested in `share_maps` and `test_share_hostile`.
+//! Tested in `share_maps` and `test_share_guards`.
 
 ghost use Rattle.std.specs.Prelude.{◌≡◌, ◌≢◌, ℕ, Some, None, Err, IfOk, OnErr};
 ghost use Rattle.spec_map.specs.Map.{Pairs};

@@ -1,6 +1,6 @@
 //! The interface between the maps that threads share and the map under their lock.
 //!
-//! Tested in `share_maps` and `test_share_hostile`.
+//! Tested in `share_maps` and `test_share_guards`.
 #![tactic(auto)]
 
 pub mod ascending;

@@ -1,6 +1,6 @@
 //! How a map under a lock is made, and what is read of it at one moment.
 //!
-//! Tested in `share_maps` and `test_share_hostile`.
+//! Tested in `share_maps` and `test_share_guards`.
 
 ghost use Rattle.std.specs.Prelude.{◌≡◌, ◌+◌, ℕ, [], Some, None, IfOk, IfSome, IsSome, IsTrue, MatchOption, length, map};
 ghost use Rattle.std.specs.Arc.{arc_value};

@@ -1,6 +1,6 @@
 //! The map itself, to which callers come.
 //!
-//! Tested in `test_share_sharded` and `tools/c-library`.
+//! Tested in `test_share_shards` and `tools/c-library`.
 
 ghost use Rattle.std.specs.Prelude.{◌≡◌, ◌≤◌, ◌<◌, ◌*◌, ◌/◌, ◌^◌, ℕ, [], IfOk, OnErr};
 ghost use Rattle.node_table.specs.Charge.{budget_charge};

@@ -1,6 +1,6 @@
 //! A note of what a guard has seen, which another thread's guard can learn.
 //!
-//! Tested in `test_share_sharded`.
+//! Tested in `test_share_shards`.
 
 ghost use Rattle.std.specs.Prelude.{◌≡◌};
 ghost use Rattle.spec_olc.specs.Runs.{same_number};

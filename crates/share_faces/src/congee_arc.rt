@@ -1,6 +1,6 @@
 //! `CongeeArc`, the map from keys to owners of shared values, which threads share.
 //!
-//! Tested in `share_maps` and `test_share_hostile`.
+//! Tested in `share_maps` and `test_share_guards`.
 
 ghost use Rattle.std.specs.Prelude.{◌≡◌, ◌≢◌, ◌+◌, ◌^◌, [], IfOk, OnErr, MatchResult, map};
 ghost use Rattle.std.specs.Arc.{arc_value};

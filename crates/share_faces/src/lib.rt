@@ -1,7 +1,7 @@
 //! The faces of the map that threads share, over any map under its lock: with typed keys and values, with numbers as
 //! keys, and with owners as values.
 //!
-//! Tested in `share_maps` and `test_share_hostile`.
+//! Tested in `share_maps` and `test_share_guards`.
 #![tactic(auto)]
 
 pub mod congee_arc;

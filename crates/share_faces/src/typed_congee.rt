@@ -1,6 +1,6 @@
 //! `Congee`, the map from keys to values that numbers represent, which threads share.
 //!
-//! Tested in `share_maps` and `test_share_hostile`.
+//! Tested in `share_maps` and `test_share_guards`.
 
 ghost use Rattle.std.specs.Prelude.{◌≡◌, ◌≢◌, ℕ, ◌≤◌, ◌+◌, ◌^◌, [], length, IfOk, IfSome, IsTrue, OnErr, MatchResult, map};
 ghost use Rattle.spec_map.specs.Call.{count, counted, get, insert, remove};

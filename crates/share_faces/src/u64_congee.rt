@@ -1,6 +1,6 @@
 //! `U64Congee`, the map from numbers to values that numbers represent, which threads share.
 //!
-//! Tested in `share_maps` and `test_share_hostile`.
+//! Tested in `share_maps` and `test_share_guards`.
 
 ghost use Rattle.std.specs.Prelude.{◌≡◌, ◌≢◌, ℕ, ◌≤◌, ◌+◌, ◌^◌, [], length, IfOk, IsTrue, OnErr, MatchResult, map};
 ghost use Rattle.std.specs.Int.{to_be_bytes, w64};

@@ -1,6 +1,6 @@
 //! The closures of calls, which are called while the lock is free.
 //!
-//! Tested in `share_maps` and `test_share_hostile`.
+//! Tested in `share_maps` and `test_share_guards`.
 
 ghost use Rattle.std.specs.Prelude.{◌≡◌};
 ghost use Rattle.share_holds.specs.Closures.{StepsAlways, StepsIfPresent, StepsNot};

@@ -1,6 +1,6 @@
 //! What is called between the events of a call.
 //!
-//! Tested in `share_maps/rows` and `test_share_hostile/gates`.
+//! Tested in `share_maps/rows` and `test_share_guards/gates`.
 
 use spec_olc::types::Report;
 

@@ -1,7 +1,7 @@
 //! The holds of the lock: for each kind one function, which takes it, makes one call of the state under it and releases
 //! it.
 //!
-//! Tested in `share_maps` and `test_share_hostile`.
+//! Tested in `share_maps` and `test_share_guards`.
 
 ghost use Rattle.std.specs.Prelude.{◌≡◌, ◌≢◌, ◌+◌, ◌++◌, ℕ, Some, None, Err, IfOk, IfSome, OnErr, length, map, min, take, drop};
 ghost use Rattle.spec_map.specs.Map.{Pairs, IsMap, between};

@@ -1,7 +1,7 @@
 //! The calls of a guard's number: attempts at a call, each made of events. Closures and gates are called between holds,
 //! so nothing that a hold does can take the lock again.
 //!
-//! Tested in `share_maps` and `test_share_hostile`.
+//! Tested in `share_maps` and `test_share_guards`.
 
 ghost use Rattle.std.specs.Prelude.{◌≡◌, ◌≢◌, Some, IfOk, OnErr};
 ghost use Rattle.spec_olc.specs.Calls.{IsPoint, outline_of};

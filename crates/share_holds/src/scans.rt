@@ -1,6 +1,6 @@
 //! The pairs of a range that is a call of many events.
 //!
-//! Tested in `share_maps` and `test_share_hostile`.
+//! Tested in `share_maps` and `test_share_guards`.
 
 ghost use Rattle.std.specs.Prelude.{◌≡◌, ◌≤◌, ℕ, Bool, List, None, Some, IfSome, length};
 ghost use Rattle.share_backend.specs.declared.lent.CallStage.TheVariants.{Ready};

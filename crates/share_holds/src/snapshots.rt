@@ -1,6 +1,6 @@
 //! Holds that leave the map as it is: what is read of it at one moment.
 //!
-//! Tested in `share_maps` and `test_share_hostile`.
+//! Tested in `share_maps` and `test_share_guards`.
 
 ghost use Rattle.std.specs.Prelude.{◌≡◌, ◌≢◌, ◌^◌, ℕ, None, IfOk, IfSome, IsSome, IsTrue, MatchResult, map};
 ghost use Rattle.spec_map.specs.Map.{Pairs, IsMap};

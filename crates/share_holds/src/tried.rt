@@ -1,6 +1,6 @@
 //! The result of one attempt at a call.
 //!
-//! Tested in `share_maps` and `test_share_hostile`.
+//! Tested in `share_maps` and `test_share_guards`.
 
 use spec_olc::types::Reply;
 

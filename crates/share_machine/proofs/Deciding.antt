@@ -1,6 +1,6 @@
 -- A step that decides a call decides one without a reply.
 use Rattle.std.proofs.Common.{◌≡◌, ℕ, Bool, true, false, IsTrue, inl, inr, refl}
-use Rattle.node_table.specs.TableNode.{TableNode}
+use Rattle.spec_node.specs.TableNode.{TableNode}
 use Rattle.spec_olc.specs.Kinds.{DoesAs, ReadOutcome, refusal}
 use Rattle.spec_olc.specs.Local.{IsLocal}
 use Rattle.spec_olc.specs.State.{State, CallState}

@@ -1,6 +1,6 @@
 -- A pair that a range gives is stored.
 use Rattle.std.proofs.Common.{◌≡◌, ℕ, Bool, true, false, IsTrue, inl, inr, refl}
-use Rattle.node_table.specs.TableNode.{TableNode}
+use Rattle.spec_node.specs.TableNode.{TableNode}
 use Rattle.spec_olc.specs.Content.{IsStoredAt}
 use Rattle.spec_olc.specs.Kinds.{DoesAs, ReadOutcome, refusal}
 use Rattle.spec_olc.specs.State.{State, CallState}

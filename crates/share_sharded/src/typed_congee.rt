@@ -1,6 +1,6 @@
 //! `Congee`, the map from keys to values that numbers represent, which threads share in shards.
 //!
-//! Tested in `test_share_sharded`.
+//! Tested in `test_share_shards`.
 
 ghost use Rattle.std.specs.Prelude.{◌≡◌, ◌≢◌, ◌/◌, [], IfOk, OnErr};
 ghost use Rattle.std.specs.Option.{option_map};

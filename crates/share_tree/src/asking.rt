@@ -1,6 +1,6 @@
 //! The calls with a closure: how the closure is asked, and how its answer is used.
 //!
-//! Tested in `share_maps` and `test_share_hostile/changes`.
+//! Tested in `share_maps` and `test_share_guards/changes`.
 
 ghost use Rattle.std.specs.Prelude.{◌≡◌, Option, Some, None, IfOk, OnErr};
 ghost use Rattle.spec_map.specs.Map.{lookup};

@@ -1,6 +1,6 @@
 //! How often a map was changed.
 //!
-//! Tested in `share_maps` and `test_share_hostile/changes`.
+//! Tested in `share_maps` and `test_share_guards/changes`.
 
 ghost use Rattle.std.specs.Prelude.{◌≡◌, ◌≢◌, ℕ, ◌+◌, ◌%◌, ◌≤◌, min};
 ghost use Rattle.share_tree.specs.inner.Current.{change_count};

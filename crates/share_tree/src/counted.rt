@@ -1,6 +1,6 @@
 //! A tree whose changes are counted by key.
 //!
-//! Tested in `share_maps` and `test_share_hostile/changes`.
+//! Tested in `share_maps` and `test_share_guards/changes`.
 
 ghost use Rattle.std.specs.Prelude.{◌≡◌, ◌+◌, ◌<◌, [], None, length, take, IfOk, IfErr, OnOk, OnErr, IsSome, IsTrue, option_copied};
 ghost use Rattle.std.specs.List.{FoldsTo};

@@ -1,6 +1,6 @@
 //! The tree with its seats.
 //!
-//! Tested in `share_maps` and `test_share_hostile/changes`.
+//! Tested in `share_maps` and `test_share_guards/changes`.
 
 ghost use Rattle.std.specs.Prelude.{◌≡◌, ◌≢◌, ℕ, [], None, Some, Err, IfOk, OnErr, IsTrue, MatchOption, ◌++◌, length, map, min, take, drop};
 ghost use Rattle.share_backend.specs.Changing.{Counts, reply_in, reply_opened};

@@ -13,7 +13,7 @@
 //!
 //! A range is no call of this map: it is read by pages, or pair by pair.
 //!
-//! Tested in `share_maps` and `test_share_hostile/changes`.
+//! Tested in `share_maps` and `test_share_guards/changes`.
 #![tactic(auto)]
 
 mod ascending;

@@ -1,6 +1,6 @@
 //! The map of numbers under a lock.
 //!
-//! Tested in `share_maps` and `test_share_hostile/changes`.
+//! Tested in `share_maps` and `test_share_guards/changes`.
 
 ghost use Rattle.std.specs.Prelude.{◌≡◌, ◌≢◌, ℕ, Some, length};
 ghost use Rattle.share_backend.specs.Changing.{Counts, reply_in};

@@ -1,6 +1,6 @@
 //! The map of owners under a lock.
 //!
-//! Tested in `share_maps` and `test_share_hostile/changes`.
+//! Tested in `share_maps` and `test_share_guards/changes`.
 
 ghost use Rattle.std.specs.Prelude.{◌≡◌, ◌≢◌, ℕ, Some, length, false};
 ghost use Rattle.std.specs.Arc.{arc_value};

@@ -1,6 +1,6 @@
 //! Shares of payloads, with the same meanings.
 //!
-//! Tested in `share_maps` and `test_share_hostile/changes`.
+//! Tested in `share_maps` and `test_share_guards/changes`.
 
 ghost use Rattle.std.specs.Prelude.{◌≡◌, IfOk, option_copied};
 ghost use Rattle.spec_olc.specs.Meaning.{in_some};

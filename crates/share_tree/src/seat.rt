@@ -1,6 +1,6 @@
 //! A number that is seated.
 //!
-//! Tested in `share_maps` and `test_share_hostile/changes`.
+//! Tested in `share_maps` and `test_share_guards/changes`.
 
 use spec_olc::types::Op;
 

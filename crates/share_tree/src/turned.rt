@@ -1,6 +1,6 @@
 //! The result of an event of a running call.
 //!
-//! Tested in `share_maps` and `test_share_hostile/changes`.
+//! Tested in `share_maps` and `test_share_guards/changes`.
 
 use crate::seat::CallSeat;
 use spec_olc::types::{Kind, Outcome};

@@ -1,6 +1,6 @@
 //! One event of a running call.
 //!
-//! Tested in `share_maps` and `test_share_hostile/changes`.
+//! Tested in `share_maps` and `test_share_guards/changes`.
 
 ghost use Rattle.std.specs.Prelude.{◌≡◌, ◌↔◌, IsTrue};
 ghost use Rattle.spec_olc.specs.Calls.{outline_of};

@@ -1,7 +1,7 @@
 -- Cleanups: what begins one, and that a call which has its reply decides nothing.
 use Rattle.std.proofs.Common.{◌≡◌, ◌≢◌, ℕ, ◌+◌, ◌⊎◌, Bool, true, false, List, [], ◌∷◌, length, Option, Some, None, if◌then◌else◌, inl, inr, refl, sym, subst, ap, ◌∙◌}
 use Rattle.spec_map.specs.Map.{lookup, put}
-use Rattle.node_table.specs.TableNode.{TableNode, Child}
+use Rattle.spec_node.specs.TableNode.{TableNode, Child}
 use Rattle.spec_olc.proofs.Settling.{by_ok}
 use Rattle.spec_olc.proofs.Steps.{call_after, none_some, some_is}
 use Rattle.spec_olc.specs.Calls.{IsPoint, Outline}

@@ -1,7 +1,7 @@
 -- The root of a well formed tree has no payload.
 use Rattle.std.proofs.Common.{◌≡◌, ℕ, length, Some, sym, ap, ◌∙◌}
 use Rattle.spec_map.specs.Map.{lookup}
-use Rattle.node_table.specs.declared.child.Child.TheVariants.{Payload}
+use Rattle.spec_node.specs.declared.child.Child.TheVariants.{Payload}
 use Rattle.spec_olc.specs.Content.{at_root}
 use Rattle.spec_olc.specs.State.{State, VersionedNode}
 use Rattle.spec_olc.specs.WellFormed.{IsWellFormed}

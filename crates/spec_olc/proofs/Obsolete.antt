@@ -3,7 +3,7 @@ use Rattle.std.proofs.Common.{rules, ◌≡◌, ◌≢◌, ℕ, ◌+◌, Bool, t
 use Rattle.std.proofs.lemmas.Bool.Decides.{eqb_tells}
 use Rattle.spec_map.proofs.MapLaws.{lookup-put_other, lookup-without_other}
 use Rattle.spec_map.specs.Map.{lookup, put, without}
-use Rattle.node_table.specs.TableNode.{TableNode}
+use Rattle.spec_node.specs.TableNode.{TableNode}
 use Rattle.spec_olc.proofs.Standing.{by_ok, reads_same, hears_same}
 use Rattle.spec_olc.proofs.Written.{write_keeps, taken}
 use Rattle.spec_olc.specs.Kinds.{DoesAs}

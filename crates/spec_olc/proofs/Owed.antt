@@ -1,9 +1,9 @@
 -- What each event owes: a Finish no cleanup, a reply a Read, a lock and a Write a change, a new node its form.
 use Rattle.std.proofs.Common.{◌≡◌, ◌≢◌, ℕ, Bool, true, false, IsTrue, Option, Some, None, IsSome, inl, inr, refl, sym, subst, ◌∙◌}
 use Rattle.node_base.specs.declared.base_node.NodeType.TheVariants.{N4}
-use Rattle.node_table.specs.Key.{Begins}
-use Rattle.node_table.specs.TableNode.{TableNode, Child}
-use Rattle.node_table.specs.declared.child.Child.TheVariants.{Payload, Node as below}
+use Rattle.spec_node.specs.Key.{Begins}
+use Rattle.spec_node.specs.TableNode.{TableNode, Child}
+use Rattle.spec_node.specs.declared.child.Child.TheVariants.{Payload, Node as below}
 use Rattle.spec_olc.proofs.Settling.{by_ok}
 use Rattle.spec_olc.proofs.Steps.{none_some, some_is}
 use Rattle.spec_olc.specs.Calls.{IsPoint, Outline, bytes_of}

@@ -2,7 +2,7 @@
 use Rattle.std.proofs.Common.{◌≡◌, ℕ, ◌+◌, ◌<◌, ◌≤◌, Bool, true, false, IsTrue, List, [], ◌∷◌, Option, Some, None, if◌then◌else◌, inl, inr, ◌⊎◌, refl, sym, subst, ap, ◌∙◌, arith}
 use Rattle.spec_map.proofs.MapLaws.{lookup-put_same}
 use Rattle.spec_map.specs.Map.{lookup, put}
-use Rattle.node_table.specs.TableNode.{TableNode}
+use Rattle.spec_node.specs.TableNode.{TableNode}
 use Rattle.spec_olc.specs.Calls.{Outline, IsPoint}
 use Rattle.spec_olc.specs.Content.{Reaches, at_root, by_child, IsStoredAt}
 use Rattle.spec_olc.specs.Kinds.{NextIs, DoesAs, CheckOutcome, AnswerOutcome, IsAtWork, MayEnd, ReadOutcome, WriteOutcome, failed, not_locked, refusal, refused, unlocked}

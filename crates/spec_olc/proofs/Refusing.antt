@@ -1,7 +1,7 @@
 -- If shares are always granted, only a call that may make nodes is refused.
 use Rattle.std.proofs.Common.{◌≡◌, ℕ, Bool, true, false, IsTrue, Some, refl, sym, subst, ◌∙◌}
 use Rattle.spec_map.specs.Map.{lookup}
-use Rattle.node_table.specs.TableNode.{TableNode}
+use Rattle.spec_node.specs.TableNode.{TableNode}
 use Rattle.spec_olc.specs.Kinds.{Checks, DoesAs, CheckOutcome, AnswerOutcome, IsStep, MayMake, ReadOutcome, WriteOutcome}
 use Rattle.spec_olc.specs.State.{CallState, State}
 use Rattle.spec_olc.specs.declared.types.Env.{Env}

@@ -1,8 +1,8 @@
 -- The meaning of a number is the number, so the meaning of a state over numbers is the state.
 use Rattle.std.proofs.Common.{◌≡◌, ℕ, List, [], ◌∷◌, Option, Some, None, refl, ap, ◌∙◌}
 use Rattle.node_table.specs.inner.Kinds.{mapped}
-use Rattle.node_table.specs.TableNode.{Child}
-use Rattle.node_table.specs.declared.child.Child.TheVariants.{Payload, Node as node}
+use Rattle.spec_node.specs.TableNode.{Child}
+use Rattle.spec_node.specs.declared.child.Child.TheVariants.{Payload, Node as node}
 use Rattle.spec_olc.specs.Meaning.{in_some, child_of, seen_of, op_of, asking_of, node_meant, flight_of, meant}
 use Rattle.spec_olc.specs.State.{State, VersionedNode, CallState}
 use Rattle.spec_olc.specs.declared.types.Asking.{Asking}

@@ -1,6 +1,6 @@
 -- No step changes the seats.
 use Rattle.std.proofs.Common.{◌≡◌, ℕ, Bool, true, false, IsTrue, Option, inl, inr, refl, ap}
-use Rattle.node_table.specs.TableNode.{TableNode}
+use Rattle.spec_node.specs.TableNode.{TableNode}
 use Rattle.spec_olc.specs.Kinds.{DoesAs, ReadOutcome, AnswerOutcome}
 use Rattle.spec_olc.specs.State.{State, CallState}
 use Rattle.spec_olc.specs.declared.types.Env.{Env}

@@ -1,7 +1,7 @@
 -- A call that is decided or refused keeps no payload; what an Answer, a Check and a range's reach imply.
 use Rattle.std.proofs.Common.{◌≡◌, ℕ, ◌<◌, ◌≤◌, Bool, true, false, IsTrue, Some, None, IsSome, inl, inr, refl, sym, subst, ap, ◌∙◌, arith}
 use Rattle.spec_map.specs.Map.{lookup}
-use Rattle.node_table.specs.TableNode.{TableNode}
+use Rattle.spec_node.specs.TableNode.{TableNode}
 use Rattle.spec_olc.proofs.Steps.{call_after}
 use Rattle.spec_olc.specs.Calls.{Outline}
 use Rattle.spec_olc.specs.Content.{IsStoredAt}

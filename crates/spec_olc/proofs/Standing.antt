@@ -3,7 +3,7 @@ use Rattle.std.proofs.Common.{◌≡◌, ℕ, ◌+◌, Bool, true, false, IsTrue
 use Rattle.std.proofs.lemmas.Bool.Decides.{eqb_tells}
 use Rattle.spec_map.proofs.MapLaws.{lookup-put_same, lookup-put_other, lookup-without_same, lookup-without_other, Rises-without}
 use Rattle.spec_map.specs.Map.{lookup, put, without, Rises}
-use Rattle.node_table.specs.TableNode.{TableNode}
+use Rattle.spec_node.specs.TableNode.{TableNode}
 use Rattle.spec_olc.specs.declared.types.Outcome.TheVariants as outcome
 use Rattle.spec_olc.specs.Kinds.{ReadOutcome, AnswerOutcome, Upgrades, DoesAs}
 use Rattle.spec_olc.specs.Lists.{without_all}

@@ -3,7 +3,7 @@ use Rattle.std.proofs.Common.{◌≡◌, ◌≢◌, ℕ, Bool, true, false, IsTr
 use Rattle.std.proofs.lemmas.Bool.Decides.{eqb_tells}
 use Rattle.spec_map.proofs.MapLaws.{lookup-put_same, lookup-put_other, lookup-without_other}
 use Rattle.spec_map.specs.Map.{lookup, put}
-use Rattle.node_table.specs.TableNode.{TableNode}
+use Rattle.spec_node.specs.TableNode.{TableNode}
 use Rattle.spec_olc.specs.declared.types.Outcome.TheVariants as outcome
 use Rattle.spec_olc.specs.Kinds.{NextIs, ReadOutcome, AnswerOutcome, Takes, Retires, Unlocks, DoesAs, failed, unlocked}
 use Rattle.spec_olc.specs.Lists.{is_in, off}

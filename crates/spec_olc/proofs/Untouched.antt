@@ -1,7 +1,7 @@
 -- A step of a range leaves the nodes, the number of pairs and the charge unchanged.
 use Rattle.std.proofs.Common.{◌≡◌, ◌≢◌, ℕ, ◌+◌, Bool, true, false, IsTrue, List, [], Option, Some, if◌then◌else◌, inl, inr, refl, sym, subst, ap, ◌∙◌}
 use Rattle.spec_map.specs.Map.{lookup, put}
-use Rattle.node_table.specs.TableNode.{TableNode}
+use Rattle.spec_node.specs.TableNode.{TableNode}
 use Rattle.spec_olc.specs.Calls.{IsPoint, Outline}
 use Rattle.spec_olc.specs.Kinds.{NextIs, Checks, DoesAs, CheckOutcome, AnswerOutcome, IsStep, ReadOutcome, failed}
 use Rattle.spec_olc.specs.Lists.{is_in}

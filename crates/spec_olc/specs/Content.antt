@@ -1,9 +1,9 @@
 -- The reachable nodes, and the map that they store.
 use Rattle.std.specs.Prelude.{◌≡◌, ℕ, [], ◌∷◌, ◌++◌, Option, Some, None, ◌↔◌}
-use Rattle.node_table.specs.Key.{low}
+use Rattle.spec_node.specs.Key.{low}
 use Rattle.spec_map.specs.Map.{Pairs, lookup, IsMap}
-use Rattle.node_table.specs.TableNode.{Child}
-use Rattle.node_table.specs.declared.child.Child.TheVariants.{Payload, Node as node}
+use Rattle.spec_node.specs.TableNode.{Child}
+use Rattle.spec_node.specs.declared.child.Child.TheVariants.{Payload, Node as node}
 use Rattle.spec_olc.specs.State.{VersionedNode, State}
 
 module _ {M : Type 0} where

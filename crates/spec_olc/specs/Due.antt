@@ -1,7 +1,7 @@
 -- WHAT A REMOVAL LEAVES TO CLEAN UP: a node other than the root that has few children is due.
 use Rattle.std.specs.Prelude.{◌≡◌, ◌<◌, ◌≤◌, Bool, true, IsTrue, ◌↔◌, length, Option, Some, None}
 use Rattle.node_base.specs.Form.{few_in}
-use Rattle.node_table.specs.TableNode.{TableNode, Child}
+use Rattle.spec_node.specs.TableNode.{TableNode, Child}
 use Rattle.spec_olc.specs.State.{Cleaning}
 
 abbrev pub may_follow : Option Cleaning → Bool

@@ -3,8 +3,8 @@ use Rattle.std.specs.Prelude.{◌≡◌, ◌≢◌, ℕ, ◌+◌, Bool, true, fa
 use Rattle.node_table.specs.Charge.{Charge, add_charge}
 use Rattle.node_base.specs.Form.{Fits, stated_size}
 use Rattle.spec_map.specs.Map.{lookup, put, without}
-use Rattle.node_table.specs.TableNode.{TableNode, Child, MayHave}
-use Rattle.node_table.specs.declared.child.Child.TheVariants.{Payload, Node as node_at}
+use Rattle.spec_node.specs.TableNode.{TableNode, Child, MayHave}
+use Rattle.spec_node.specs.declared.child.Child.TheVariants.{Payload, Node as node_at}
 use Rattle.spec_olc.specs.Calls.{IsPoint, Outline, key_of, outline_of, stored}
 use Rattle.spec_olc.specs.Content.{IsCurrent}
 use Rattle.spec_olc.specs.Due.{IsDue, IsLeft}

@@ -3,8 +3,8 @@ use Rattle.std.specs.Prelude.{◌≡◌, ℕ, Bool, IsTrue, [], ◌∷◌, Optio
 use Rattle.spec_map.specs.Call.{ClosureCall}
 use Rattle.spec_map.specs.Legal.{IsClosureCalled, reply_of, after}
 use Rattle.spec_map.specs.Map.{Pairs}
-use Rattle.node_table.specs.TableNode.{Child}
-use Rattle.node_table.specs.declared.child.Child.TheVariants.{Payload}
+use Rattle.spec_node.specs.TableNode.{Child}
+use Rattle.spec_node.specs.declared.child.Child.TheVariants.{Payload}
 use Rattle.spec_olc.specs.Calls.{Outline, IsPoint, map_call, map_reply, map_asked, asked_of}
 use Rattle.spec_olc.specs.State.{CallState, Cleaning}
 use Rattle.spec_olc.specs.declared.types.Asking.TheVariants.{Fresh}

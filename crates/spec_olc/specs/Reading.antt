@@ -1,10 +1,10 @@
 -- What a Read reports, and what follows at a Check: where a way ends, and how far a range is.
 use Rattle.std.specs.Prelude.{◌≡◌, ℕ, ◌+◌, ◌-◌, ◌^◌, ◌<◌, ◌≤◌, min, max, IsTrue, ◌↔◌, List, [], ◌∷◌, ◌++◌, length, Option, Some, None, IsSome, if◌then◌else◌, nat_lt, ◌⊎◌}
 use Rattle.node_base.specs.Form.{Fits}
-use Rattle.node_table.specs.Key.{Begins, next_byte, low, high}
+use Rattle.spec_node.specs.Key.{Begins, next_byte, low, high}
 use Rattle.spec_map.specs.Map.{lookup}
-use Rattle.node_table.specs.TableNode.{TableNode, Child}
-use Rattle.node_table.specs.declared.child.Child.TheVariants.{Payload, Node as below}
+use Rattle.spec_node.specs.TableNode.{TableNode, Child}
+use Rattle.spec_node.specs.declared.child.Child.TheVariants.{Payload, Node as below}
 use Rattle.spec_olc.specs.Calls.{Outline, bytes_of}
 use Rattle.spec_olc.specs.Content.{IsStoredAt}
 use Rattle.spec_olc.specs.Local.{seen_child, seen_payload}

@@ -2,7 +2,7 @@
 use Rattle.std.specs.Prelude.{◌≡◌, ℕ, ◌+◌, Bool, List, [], Option, None}
 use Rattle.node_table.specs.Charge.{Charge}
 use Rattle.spec_map.specs.Map.{put}
-use Rattle.node_table.specs.TableNode.{TableNode}
+use Rattle.spec_node.specs.TableNode.{TableNode}
 use Rattle.spec_olc.specs.Calls.{Outline}
 use Rattle.spec_olc.specs.declared.types.Asking.{Asking}
 use Rattle.spec_olc.specs.declared.types.Asking.TheVariants.{Fresh}

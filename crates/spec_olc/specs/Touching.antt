@@ -2,7 +2,7 @@
 -- or a Make of its own and has been in use ever since.
 use Rattle.std.specs.Prelude.{◌≡◌, ◌≢◌, ℕ, List, [], ◌∷◌, Option, Some, None, IsSome, ◌⊎◌}
 use Rattle.spec_map.specs.Map.{lookup}
-use Rattle.node_table.specs.declared.child.Child.TheVariants.{Node}
+use Rattle.spec_node.specs.declared.child.Child.TheVariants.{Node}
 use Rattle.spec_olc.specs.Runs.{Transition}
 use Rattle.spec_olc.specs.declared.trace.Line.{Line}
 use Rattle.spec_olc.specs.declared.trace.Line.TheVariants.{Done as Made}

@@ -2,11 +2,11 @@
 use Rattle.std.specs.Prelude.{◌≡◌, ℕ, ◌+◌, List, [], ◌∷◌, ◌++◌, length, Option, Some, IsSome, IsTrue}
 use Rattle.node_table.specs.Charge.{Covers}
 use Rattle.node_base.specs.Form.{stated_size}
-use Rattle.node_table.specs.Key.{Begins}
+use Rattle.spec_node.specs.Key.{Begins}
 use Rattle.spec_map.specs.Map.{Pairs, lookup, IsMap}
-use Rattle.node_table.specs.TableNode.{TableNode, Child, MayHave}
+use Rattle.spec_node.specs.TableNode.{TableNode, Child, MayHave}
 use Rattle.node_base.specs.declared.base_node.NodeType.TheVariants.{N256}
-use Rattle.node_table.specs.declared.child.Child.TheVariants.{Node as node}
+use Rattle.spec_node.specs.declared.child.Child.TheVariants.{Node as node}
 use Rattle.spec_olc.specs.Content.{Reaches, HasEntry, IsContent}
 use Rattle.spec_olc.specs.Lists.{is_in}
 use Rattle.spec_olc.specs.Lock.{IsFree, IsLocked, IsObsolete}

@@ -3,10 +3,10 @@ use Rattle.std.specs.Prelude.{◌≡◌, ℕ, Bool, false, List, [], ◌∷◌, 
 use Rattle.node_base.specs.Form.{Fits, next_form, smaller_form}
 use Rattle.node_base.specs.declared.base_node.NodeType.{NodeType}
 use Rattle.node_base.specs.declared.base_node.NodeType.TheVariants.{N4}
-use Rattle.node_table.specs.Key.{Begins, next_byte}
+use Rattle.spec_node.specs.Key.{Begins, next_byte}
 use Rattle.spec_map.specs.Map.{lookup, put, with_answer, Rises}
-use Rattle.node_table.specs.TableNode.{TableNode, Child, MayHave}
-use Rattle.node_table.specs.declared.child.Child.TheVariants.{Payload, Node as node}
+use Rattle.spec_node.specs.TableNode.{TableNode, Child, MayHave}
+use Rattle.spec_node.specs.declared.child.Child.TheVariants.{Payload, Node as node}
 use Rattle.spec_olc.specs.Calls.{bytes_of, stored}
 use Rattle.spec_olc.specs.Lists.{is_in}
 use Rattle.spec_olc.specs.State.{CallState, Cleaning, VersionedNode, State, publish}

@@ -7,7 +7,7 @@ ghost use Rattle.node_table.specs.Charge.{Charge};
 ghost use Rattle.spec_map.specs.Map.{Pairs, lookup};
 ghost use Rattle.node_base.specs.Form.{next_form, smaller_form};
 ghost use Rattle.node_base.specs.declared.base_node.NodeType.TheVariants.{N4};
-ghost use Rattle.node_table.specs.Key.{Begins};
+ghost use Rattle.spec_node.specs.Key.{Begins};
 ghost use Rattle.spec_olc.specs.Calls.{IsPoint, bytes_of};
 ghost use Rattle.spec_olc.specs.Content.{IsContent, IsStoredAt};
 ghost use Rattle.spec_olc.specs.Deciding.{IsContentStep};
@@ -27,7 +27,7 @@ ghost use Rattle.spec_olc.specs.Local.{LeavesAll, SharesNone, seen_child, seen_p
 ghost use Rattle.spec_olc.specs.Lock.{IsFree, IsObsolete};
 ghost use Rattle.spec_olc.specs.Reading.{Remembered};
 ghost use Rattle.spec_olc.specs.Runs.{Transition, IsHistory, fresh, same_number};
-ghost use Rattle.node_table.specs.TableNode.{TableNode};
+ghost use Rattle.spec_node.specs.TableNode.{TableNode};
 ghost use Rattle.spec_olc.specs.Writing.{HeldNode, IsNewNode, changed, entry_below, with_children};
 ghost use Rattle.spec_olc.specs.State.{LeavesNodes, publish, State, CallState, Cleaning, VersionedNode, not_yet, published};
 ghost use Rattle.spec_olc.specs.Touching.{IsLive};
@@ -43,7 +43,7 @@ ghost use Rattle.spec_olc.specs.declared.types.Seen.{Seen};
 use crate::payload::HasMeaning;
 use crate::trace::Line;
 use crate::types::{Asking, Event, Kind, Op, Outcome, Progress, Reply};
-use node_table::child::Child;
+use spec_node::child::Child;
 
 /// A step leaves the seats and the root unchanged.
 pub fn a_step_keeps_the_seats<P: HasMeaning>()

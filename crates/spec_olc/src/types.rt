@@ -1,7 +1,7 @@
 //! The events of a schedule, and what the machine reports of each.
 
-use node_table::child::Child;
 use spec_map::error::OOMError;
+use spec_node::child::Child;
 
 /// What a Read reports of a node: the child under the key's byte (of a range, the first one from its bound on), how
 /// many children the node has, and whether it has no room for one more.

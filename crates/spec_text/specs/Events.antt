@@ -1,6 +1,6 @@
 -- The events that an entry denotes.
 use Rattle.std.specs.Prelude.{ℕ, false, true, List, [], ◌∷◌, replicate, Option, None}
-use Rattle.node_table.specs.TableNode.{Child}
+use Rattle.spec_node.specs.TableNode.{Child}
 use Rattle.spec_olc.specs.declared.types.Env.{Env}
 use Rattle.spec_olc.specs.declared.types.Event.{Event}
 use Rattle.spec_olc.specs.declared.types.Event.TheVariants as event

@@ -1,6 +1,6 @@
 //! The entries of a schedule.
 
-use node_table::child::Child;
+use spec_node::child::Child;
 use spec_olc::types::Op;
 
 /// The entry of a line. The first number of each but `Reclaim` is that of a call.

@@ -63,9 +63,9 @@ fn a_node_that_outgrew_its_form_is_the_next_of_that_form(rt: HostRuntime) -> Res
     Ok(())
 }
 
-// A node comes above another one where ways part. It is one that outgrew its form.
+// A node comes above another one where paths part. It is one that outgrew its form.
 #[test]
-fn a_fork_is_a_node_that_outgrew_its_form(rt: HostRuntime) -> Result<(), Fail> {
+fn a_split_takes_a_node_that_outgrew_its_form(rt: HostRuntime) -> Result<(), Fail> {
     let map = Congee::new(rt.alloc())?;
     let mut guard = map.pin();
     assert!(rt; all_new(&map, rt.alloc(), &mut guard, 1 << 56, 1));

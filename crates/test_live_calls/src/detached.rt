@@ -27,11 +27,11 @@ fn removed(map: &Congee, key: u64) -> Result<Option<u64>, Busy> {
     remove(map, &mut guard, key)
 }
 
-// The height of the node at which a key's way ends: 1 at a leaf, 8 at the root. 0 where a writer came in between.
+// The height of the node at which a key's path ends: 1 at a leaf, 8 at the root. 0 where a writer came in between.
 fn end_of(map: &Congee, key: u64) -> usize {
     let mut guard = map.pin();
-    match descend(&map.nodes, key, &mut guard.pass) {
-        Some(end) => end.stand.height,
+    match descend(&map.nodes, key, &mut guard.seat) {
+        Some(end) => end.position.height,
         None => 0,
     }
 }

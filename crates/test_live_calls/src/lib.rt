@@ -14,9 +14,9 @@ mod exchanges;
 #[cfg(test)]
 mod limits;
 #[cfg(test)]
-mod narrowed;
-#[cfg(test)]
 mod pool;
+#[cfg(test)]
+mod shrunk;
 #[cfg(test)]
 mod tests;
 #[cfg(test)]

@@ -5,7 +5,7 @@ ghost use Rattle.std.specs.Prelude.{◌≡◌};
 use live_growth::held::lock_node;
 use live_growth::map::{Busy, Congee, Guard, Refusal};
 use live_reads::descend::descend;
-use live_reads::way::words_at;
+use live_reads::path::words_at;
 use live_updates::calls::remove;
 use live_updates::computes::present::add;
 use std::alloc::Global;
@@ -112,17 +112,17 @@ fn a_full_map_keeps_its_pairs(rt: HostRuntime) -> Result<(), Fail> {
     Ok(())
 }
 
-// Locks the node at which a key's way ends, for ever. Whether it did.
+// Locks the node at which a key's path ends, for ever. Whether it did.
 fn is_locked(map: &Congee, key: u64) -> bool {
-    let mut pass = map.pin().pass;
-    let Some(end) = descend(&map.nodes, key, &mut pass) else {
+    let mut seat = map.pin().seat;
+    let Some(end) = descend(&map.nodes, key, &mut seat) else {
         return false;
     };
-    let name = end.stand.name;
+    let name = end.position.name;
     let Some(words) = words_at(&map.nodes, name) else {
         return false;
     };
-    lock_node(words, name, end.stand.height, key, &mut pass).is_some()
+    lock_node(words, name, end.position.height, key, &mut seat).is_some()
 }
 
 // Whether the calls at a locked leaf are busy, and not out of memory. The key of this number is there, others are elsewhere.

@@ -1,6 +1,6 @@
 //! Tests of the map with guards that were given back.
 
+mod cleanup_due;
 mod emptied;
-mod narrowed;
-mod owed;
 mod rooms;
+mod shrunk;

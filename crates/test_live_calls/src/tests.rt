@@ -166,7 +166,7 @@ const PARTING: [u64; 10] = [
     0x0201010101010102,
 ];
 
-// A node comes above another where the way of a new key leaves it, and both ways are found.
+// A node comes above another where the path of a new key leaves it, and both paths are found.
 #[test]
 fn a_key_parts_from_others_at_each_byte(rt: HostRuntime) -> Result<(), Fail> {
     let map = Congee::new(rt.alloc())?;
@@ -207,7 +207,7 @@ fn parted(map: &Congee, alloc: Global) -> u32 {
 
 // Reads each of these keys until it is there, and the first once more. Returns how many reads found another value, or lost
 // what was there.
-fn wrong_ways(map: &Congee) -> u32 {
+fn wrong_paths(map: &Congee) -> u32 {
     let mut guard = map.pin();
     let mut number = 0u32;
     let mut wrong = 0u32;
@@ -234,12 +234,12 @@ fn beside_readers<R: Threads + Sync>(rt: &R, alloc: Global) -> Option<(u32, (u32
     Some(join(
         rt,
         || parted(shared, alloc),
-        || join(rt, || wrong_ways(shared), || wrong_ways(shared)),
+        || join(rt, || wrong_paths(shared), || wrong_paths(shared)),
     ))
 }
 
 #[test]
-fn ways_part_beside_readers(rt: HostRuntime) {
+fn paths_part_beside_readers(rt: HostRuntime) {
     assert!(rt; beside_readers(&rt, rt.alloc()) == Some((200, (0, 0))));
 }
 

@@ -18,9 +18,13 @@ mod neighbours;
 #[cfg(test)]
 mod noted;
 #[cfg(test)]
+mod pops;
+#[cfg(test)]
 mod ranges;
 #[cfg(test)]
 mod refusals;
+#[cfg(test)]
+mod removals;
 #[cfg(test)]
 mod snapshots;
 #[cfg(test)]

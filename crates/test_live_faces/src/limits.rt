@@ -34,7 +34,8 @@ fn stored<R: Wait>(rt: &R, alloc: Global, map: &Map, guard: &mut Guard, first: u
     count
 }
 
-// The same by a guard of its own, which is given back.
+// Stores every second of the keys, from this one on, until one is refused. The guard is the function's own, and is given
+// back. How many came in.
 fn filled<R: Wait>(rt: &R, alloc: Global, map: &Map, first: u64) -> u64 {
     let mut guard = map.pin();
     let count = stored(rt, alloc, map, &mut guard, first);

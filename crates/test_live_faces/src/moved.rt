@@ -117,7 +117,7 @@ pub fn is_owned_whole(owned: &Owned, keys: Keys) -> bool {
     owned_found(owned, keys) == keys.count && owned.value_count() == keys.count as u128
 }
 
-/// The same of a map for threads, of which this is a guard.
+/// Whether a map for threads, of which this is a guard, has the keys, with their own values, and no more.
 fn is_whole<R: Wait>(rt: &R, map: &Map, guard: &mut Guard, keys: Keys) -> bool
     requires { guard.old.book ≡ map.now }
     ensures { guard.new.book ≡ map.now }

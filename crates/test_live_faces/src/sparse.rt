@@ -45,7 +45,7 @@ fn come_and_go<R: Wait>(
     Ok(())
 }
 
-// The same beside all keys that stay, so many times.
+// Calls `come_and_go` so many times, at each of the keys that stay in turn.
 fn write<R: Wait>(rt: &R, alloc: Global, map: &Map, times: u32) -> Result<(), OOMError> {
     let mut guard = map.pin();
     let mut key = 0u64;

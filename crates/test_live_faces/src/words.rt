@@ -72,7 +72,8 @@ fn values_with_one_number_are_exchanged_alike(rt: HostRuntime) -> Result<(), Fai
     Ok(())
 }
 
-// The same by the forms that go on, in turn: whether all rows return what they have to.
+// Makes the calls of `EXCHANGES` in turn, by the form that goes on. Whether each returns what it has to, and 12 has no value
+// in the end.
 fn all_as_wanted<R: Wait>(rt: &R, map: &Congee<Tens, Tens>, guard: &mut Guard) -> bool
     requires { guard.old.book ≡ map.now }
 {

@@ -157,7 +157,7 @@ form_here f k g = ap (λ (b : Bool). cond b g (f k)) (eq-eqb k k refl)
 form_else : (f : ℕ → NodeType) (k : ℕ) (g : NodeType) (j : ℕ) → j < k → with_form f k g j ≡ f j
 form_else f k g j l = ap (λ (b : Bool). cond b g (f j)) (ne_eqb j k (λ e. absurd (omega (arith, e, l))))
 
-pub leaf_makes : (id : ℕ) (v : View) (key : ℕ) (content : Content) (form : NodeType) → IsLeaf form content → acts.Makes AreLeaves id v key content (KnowsNew v key content)
+pub leaf_makes : (id : ℕ) (v : View) (key : ℕ) (content : Content) (form : NodeType) → IsLeaf form content → acts.Makes AreLeaves id v key 0 content (KnowsNew v key content)
 leaf_makes id v key content form leaf ns vs p seat elsewhere =
     let b : Node = node_at key 0 content None in let longer : List Node = ns ++ b ∷ [] in let ds : ℕ → Content = λ _. [] in let more : length longer ≡ length ns + 1 = one_more ns ds b content in
     let last : node longer (length ns) ≡ b = node_last ns ds b content in let before : (j : ℕ) → j < length ns → node longer j ≡ node ns j = λ j h. node_before ns ds b content j h in

@@ -8,8 +8,8 @@ use lib.Seq.{set-get_or}
 use Rattle.spec_map.specs.Map.{lookup, put}
 use Rattle.node_base.specs.declared.base_node.NodeType.{NodeType}
 use Rattle.node_base.specs.declared.base_node.NodeType.TheVariants.{N4, N16, N48, N256}
-use Rattle.node_table.specs.TableNode.{Child}
-use Rattle.node_table.specs.declared.child.Child.TheVariants.{Payload, Node}
+use Rattle.spec_node.specs.TableNode.{Child}
+use Rattle.spec_node.specs.declared.child.Child.TheVariants.{Payload, Node}
 use Rattle.word_book.specs.Book.{Book, Name, reads, writes, compares, none_joined, Joined}
 use Rattle.word_segments.specs.Segments.{AreWords}
 use Rattle.node_base.specs.Form.{form_place}
@@ -325,11 +325,13 @@ module _ (v : View) (words : List Name) (b : Book) (may : MayFill words b v) (fo
     pub may_make : (id x : ℕ) → x ≡ last_of → MayMake v k AreLeaves id KnowsNew x
     may_make id x is = let s = some_words in let l = may.2 in subst (λ z. MayMake v k AreLeaves id KnowsNew z) (sym is) (
       words_of form,
+      0,
       s,
       omega (arith, long, l),
       at_key,
       zero,
-      subst (λ c. acts.Makes AreLeaves id v.client v.room.start c (KnowsNew v.client v.room.start c)) (sym content_is) (leaf_makes id v.client v.room.start (filled (length words) v.room) form leaf),
+      (0, inl refl),
+      subst (λ c. acts.Makes AreLeaves id v.client v.room.start 0 c (KnowsNew v.client v.room.start c)) (sym content_is) (leaf_makes id v.client v.room.start (filled (length words) v.room) form leaf),
     )
 
     pub knows_new : (w : View) (x : ℕ) → x ≡ last_of → Makes KnowsNew (writes k x) v x none_joined w → (y : ℕ) → y ≡ 256 * v.room.start + form_place form → KnowsLeaf w y × (KnowsRoot v → KnowsRoot w)

@@ -89,7 +89,7 @@ root_frees id v word d one named ns vs p seat low held rises =
     (v, changes ns 0 (node_at (node ns 0).place word d None) low refl vs id v p seat (λ some_leaf. absurd (omega (arith, some_leaf))) (λ e. (one, subst (LeadsTo ns) (sym named) (p.known id v seat))), refl)
 
 -- A LEAF IS MADE
-pub leaf_makes : (id v key : ℕ) (content : Content) → IsPair content → acts.Makes ArePairs id v key content (KnowsLeaf v key content)
+pub leaf_makes : (id v key : ℕ) (content : Content) → IsPair content → acts.Makes ArePairs id v key 0 content (KnowsLeaf v key content)
 leaf_makes id v key content pair ns vs p seat elsewhere =
     let b : Node = node_at key 0 content None in let longer : List Node = ns ++ b ∷ [] in let ds : ℕ → Content = λ _. [] in let more : length longer ≡ length ns + 1 = one_more ns ds b content in
     let last : node longer (length ns) ≡ b = node_last ns ds b content in let before : (j : ℕ) → j < length ns → node longer j ≡ node ns j = λ j h. node_before ns ds b content j h in

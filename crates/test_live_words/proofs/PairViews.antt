@@ -218,7 +218,7 @@ module _ (v : View) (key n x : ℕ) (long : 1024 ≤ n) where
 
   pub may_make_leaf : (w : View) (k id : ℕ) → w ≡ half → key + 2 ≡ k → MayMake w k ArePairs id KnowsLeaf x
   may_make_leaf w k id is at = subst (λ (z : View). MayMake z k ArePairs id KnowsLeaf x) (sym is)
-      (2, omega arith, omega arith, at, refl, leaf_makes id v.client key (x ∷ x ∷ []) (refl, refl))
+      (2, 0, omega arith, omega arith, at, refl, (0, inl refl), leaf_makes id v.client key (x ∷ x ∷ []) (refl, refl))
 
   pub is_made : (w w' : View) (k : ℕ) → w ≡ half → key + 2 ≡ k → Makes KnowsLeaf (writes k x) w x none_joined w' → KnowsRoot v → (KnowsLeafAt w' key × (w'.client ≡ key)) × KnowsRoot w'
   is_made w w' k is at told known =

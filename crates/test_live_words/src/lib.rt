@@ -7,6 +7,9 @@
 //!   A leaf that is full grows beside its readers
 #![tactic(auto)]
 
-pub mod book;
-pub mod nodes;
-pub mod rows;
+#[cfg(test)]
+mod book;
+#[cfg(test)]
+mod nodes;
+#[cfg(test)]
+mod rows;

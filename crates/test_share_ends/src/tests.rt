@@ -1,7 +1,11 @@
+mod drained;
 mod ends;
 mod inserted;
 mod listed;
 mod many;
+mod meetings;
 mod numbers;
+mod one_seat;
 mod owners;
 mod popped;
+mod seats;

@@ -36,7 +36,7 @@ pub enum Fault {
     Refuses,
     /// The closure is asked with a value that nobody stored.
     Asks,
-    /// The same, and then the call is unknown.
+    /// The closure is asked with a value that nobody stored, and then the call is unknown.
     AsksAndForgets,
 }
 

@@ -1,8 +1,11 @@
-//! Guards over the tree with one owner.
-
+mod budgets;
 mod callers;
+mod changes;
+mod faults;
+mod gates;
 mod lent;
 mod meetings;
 mod refusals;
+mod refused;
 mod refusing;
 mod threads;

@@ -42,8 +42,8 @@ pub fn a_run_in_parts<R: Read, W: Write>()
         → EndsRunByParts AnswersByRow R.remaining W.contents input input' output output' result }
 {}
 
-/// The same without the ranges that found no memory for their pairs: their lines are no operations of the run, and its
-/// map refuses no range.
+/// How a run ends, in parts, without the ranges that found no memory for their pairs: their lines are no operations of
+/// the run, and its map refuses no range.
 pub fn refused_ranges_are_outside<R: Read, W: Write>()
     ensures { (input input' : Watched R) (output output' : Watched W)
         (result : Result (Pairs ℕ) RunError)

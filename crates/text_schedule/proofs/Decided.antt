@@ -2,7 +2,7 @@
 use Rattle.std.proofs.Common.{◌≡◌, ℕ, Bool, true, false, IsTrue, List, [], ◌∷◌, map, Some, inl, inr, refl, sym, ap, ◌∙◌}
 use Rattle.std.proofs.lemmas.List.{map-append}
 use Rattle.spec_map.specs.Map.{Pairs}
-use Rattle.node_table.specs.TableNode.{TableNode}
+use Rattle.spec_node.specs.TableNode.{TableNode}
 use Rattle.spec_olc.specs.Kinds.{DoesAs, ReadOutcome, refusal}
 use Rattle.spec_olc.specs.Replay.{IsReplayed}
 use Rattle.spec_olc.specs.Runs.{Transition, IsMachineRun, Happens, same_number, decided_at, decided_by, decided_in, events_in, lines_in}

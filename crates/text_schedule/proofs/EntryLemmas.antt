@@ -5,8 +5,8 @@ use Rattle.text_lines.proofs.GrammarLemmas.{NumbersFit, IsGrammar}
 use Rattle.text_lines.proofs.Decimals.{no_number, one_decimal}
 use Rattle.text_lines.proofs.ValueLemmas.{number_from, number_read, value_from, value_read, value_word, value_fits, value_number}
 use Rattle.text_lines.proofs.WordLemmas.{IsWord, number_word}
-use Rattle.node_table.specs.TableNode.{Child}
-use Rattle.node_table.specs.declared.child.Child.TheVariants.{Payload, Node}
+use Rattle.spec_node.specs.TableNode.{Child}
+use Rattle.spec_node.specs.declared.child.Child.TheVariants.{Payload, Node}
 use Rattle.spec_olc.specs.declared.types.Op.{Op}
 use Rattle.spec_olc.specs.declared.types.Op.TheVariants.{Get, Insert, Remove, ComputeIfPresent, ComputeOrInsert, CompareExchange, Range}
 use Rattle.spec_text.specs.Entry.{words_of_op, words_of_child, words_of_entry, EntryFits}

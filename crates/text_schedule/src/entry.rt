@@ -4,7 +4,7 @@
 
 ghost use Rattle.std.specs.Prelude.{◌≡◌, ℕ, List, ◌∷◌, ◌<◌, ◌≤◌, IfSome, IfNone, codes, decimal};
 
-use node_table::child::Child;
+use spec_node::child::Child;
 use spec_olc::types::Op;
 use spec_text::entry::Entry;
 use text_lines::words::Words;

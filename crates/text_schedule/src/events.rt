@@ -6,7 +6,7 @@ ghost use Rattle.std.specs.Prelude.{◌≡◌, ◌++◌, ◌∷◌, [], true, le
 ghost use Rattle.spec_text.specs.declared.entry.Entry.TheVariants.{Steps};
 ghost use Rattle.spec_text.specs.Events.{plain, torn_to, events_of};
 
-use node_table::child::Child;
+use spec_node::child::Child;
 use spec_olc::types::{Env, Event, Seen};
 use spec_text::entry::Entry;
 use std::alloc::AllocError;

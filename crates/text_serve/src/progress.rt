@@ -76,7 +76,7 @@ impl<'a, E: Write + Drop, C: Clock> Meter<'a, E, C> {
         }
     }
 
-    // The same at a time.
+    // Counts the lines of what was read. Shows their number where that is due at this time.
     fn count_at(&mut self, bytes: &[u8], now: Instant) {
         for byte in bytes {
             if *byte == b'\n' {

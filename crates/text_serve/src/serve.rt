@@ -79,7 +79,7 @@ pub fn serve<R: Read, W: Write, E: Write>(
     ensures help { AsksHelp (map string_bytes words.now)
         → Helps W.contents output.old output.new result × (input.new ≡ input.old) }
 
-    // The same as for a run, of a schedule.
+    // The words ask for a schedule, which ended in one of the ways that a schedule has.
     ensures schedule { (detail : HowMuch) → AsksSchedule (map string_bytes words.now) detail
         → (ended : Result (Unit {0}) HowScheduled) × (result ≡ schedule_status ended)
         × EndsSchedule detail R.remaining W.contents input.old input.new output.old output.new ended }

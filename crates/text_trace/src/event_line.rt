@@ -8,7 +8,7 @@ ghost use Rattle.spec_text.specs.Entry.{words_of_op, words_of_child};
 ghost use Rattle.text_trace.specs.EventLine.{call_text, kind_text, slot_text, success_text, report_text, seen_text, found_text, outcome_text, details_text, event_line};
 
 use crate::outcome::add_reply;
-use node_table::child::Child;
+use spec_node::child::Child;
 use spec_olc::trace::{Decision, Line};
 use spec_olc::types::{Env, Event, Kind, Op, Outcome, Report, Seen};
 use text_lines::pending::Pending;

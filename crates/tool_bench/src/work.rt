@@ -90,7 +90,7 @@ pub fn wall<R: Threads + Wait + Clock + Sync, W: Work + Sync>(
     Ok(hundredths(time.as_nanos(), threads, keys.len()))
 }
 
-/// The same by one, two and four threads.
+/// The times of the keys' calls by one, two and four threads.
 pub fn walls<R: Threads + Wait + Clock + Sync, W: Work + Sync>(
     rt: &R,
     work: &W,

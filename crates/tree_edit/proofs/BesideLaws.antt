@@ -9,10 +9,10 @@ use Rattle.node_table.proofs.DownLaws.{Begins-trans, one_byte}
 use Rattle.node_table.proofs.KeyLaws.{goes_on}
 use Rattle.node_table.proofs.NodesLaws.{none_below_seven}
 use Rattle.node_table.proofs.TableLaws.{IsChild-found}
-use Rattle.node_table.specs.Key.{AreBytes, Begins, next_byte}
+use Rattle.spec_node.specs.Key.{AreBytes, Begins, next_byte}
 use Rattle.node_table.specs.Table.{NodeTable, node_at, pairs_at, nodes_at, IsTree}
-use Rattle.node_table.specs.TableNode.{TableNode}
-use Rattle.node_table.specs.declared.child.Child.TheVariants.{Node}
+use Rattle.spec_node.specs.TableNode.{TableNode}
+use Rattle.spec_node.specs.declared.child.Child.TheVariants.{Node}
 use Rattle.spec_map.specs.Map.{Pairs, lookup, put}
 use Rattle.tree_path.proofs.PathEndLaws.{leads_start}
 use Rattle.tree_path.specs.declared.descent.PathEnd.{PathEnd}

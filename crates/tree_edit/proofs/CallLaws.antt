@@ -14,10 +14,10 @@ use Rattle.tree_edit.specs.Tree.{TreeView, ChargesForNodes, StoresSame}
 use Rattle.tree_edit.specs.inner.Rise.{IsWholeBefore, IsRemoval}
 use Rattle.tree_edit.specs.inner.Whole.{IsWhole}
 use Rattle.tree_edit.specs.inner.Writes.{SameElsewhere, WritesChild, NothingIsStored, IsStoredWhere, Exchanges, Fills, RefusesHere, IsReady}
-use Rattle.node_table.specs.Key.{AreBytes}
+use Rattle.spec_node.specs.Key.{AreBytes}
 use Rattle.node_table.specs.Shape.{Reshapes}
 use Rattle.node_table.specs.Table.{NodeTable, NodeInfo, pairs_at, nodes_at}
-use Rattle.node_table.specs.declared.child.Child.TheVariants.{Payload}
+use Rattle.spec_node.specs.declared.child.Child.TheVariants.{Payload}
 use Rattle.node_table.proofs.KeyLaws.{key_number-be_bytes}
 use Rattle.tree_path.specs.Charge.{charge_of, MovesAlike}
 use Rattle.tree_path.specs.inner.Supply.{IsCounted, SupplyView, Alike}

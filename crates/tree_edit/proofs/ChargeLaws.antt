@@ -1,9 +1,9 @@
 -- What the calls do to the counts of nodes, and to what is charged.
 use Rattle.std.proofs.Common.{◌≡◌, ℕ, zero, suc, ◌+◌, ◌<◌, ◌≤◌, List, [], length, Some, refl, subst, arith, inl, inr}
-use Rattle.node_table.specs.Key.{AreBytes}
+use Rattle.spec_node.specs.Key.{AreBytes}
 use Rattle.node_table.specs.Shape.{grown_form}
 use Rattle.node_table.specs.Table.{NodeTable, NodeInfo, node_at, nodes_of, nodes_at, IsTree}
-use Rattle.node_table.specs.TableNode.{TableNode}
+use Rattle.spec_node.specs.TableNode.{TableNode}
 use Rattle.node_base.specs.declared.base_node.NodeType.{NodeType}
 use Rattle.node_base.specs.declared.base_node.NodeType.TheVariants.{N4}
 use Rattle.node_table.proofs.NodesLaws.{below}

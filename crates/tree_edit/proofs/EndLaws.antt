@@ -8,11 +8,11 @@ use Rattle.node_table.specs.Charge.{Charge}
 use Rattle.spec_map.specs.Map.{Pairs, lookup, between, Rises}
 use Rattle.spec_map.specs.Near.{first_of, last_of}
 use Rattle.spec_map.proofs.NearLaws.{first_at, last_at, no_first, no_last}
-use Rattle.node_table.specs.Key.{AreBytes, Begins, low, high, key_number, next_byte}
-use Rattle.node_table.specs.TableNode.{TableNode, Child, looked_at}
+use Rattle.spec_node.specs.Key.{AreBytes, Begins, low, high, key_number, next_byte}
+use Rattle.spec_node.specs.TableNode.{TableNode, Child, looked_at}
 use Rattle.node_table.specs.Table.{NodeTable, NodeInfo, node_at, node_info, pairs_under, pairs_of, pairs_at, nodes_under, nodes_of, nodes_at, IsSound, AreChildren, IsTree}
-use Rattle.node_table.specs.declared.child.Child.TheVariants.{Payload, Node}
-use Rattle.node_table.specs.declared.child.ChildRef.{ChildRef}
+use Rattle.spec_node.specs.declared.child.Child.TheVariants.{Payload, Node}
+use Rattle.spec_node.specs.declared.child.ChildRef.{ChildRef}
 use Rattle.spec_map.proofs.RangeLaws.{between-all}
 use Rattle.node_table.proofs.BeginLaws.{after as after_prefix, begins_by, begins_itself}
 use Rattle.node_table.proofs.DownLaws.{Begins-trans}

@@ -1,7 +1,7 @@
 -- The list of a tree's nodes, node by node.
 use Rattle.std.proofs.Common.{◌≡◌, ℕ, ◌+◌, ◌-◌, List, length, IsSome, refl, ap, ◌∙◌, arith}
 use Rattle.spec_map.specs.Map.{lookup, without, Rises}
-use Rattle.node_table.specs.TableNode.{TableNode, Child}
+use Rattle.spec_node.specs.TableNode.{TableNode, Child}
 use Rattle.node_table.specs.Table.{NodeInfo, node_info, nodes_of}
 use Rattle.node_base.specs.declared.base_node.NodeType.{NodeType}
 use Rattle.spec_map.proofs.ByteMapLaws.{length-without_present}

@@ -4,19 +4,19 @@ use Rattle.std.proofs.lemmas.List.{length-take, take-append-drop, drop_all}
 use Rattle.std.proofs.lemmas.Bool.{le-ltb, eq-eqb}
 use Rattle.node_table.proofs.BeginLaws.{after, begins_by}
 use Rattle.spec_map.specs.Map.{lookup, put, Rises}
-use Rattle.node_table.specs.Key.{AreBytes, low, key_number, Begins, IsFirstDifference}
+use Rattle.spec_node.specs.Key.{AreBytes, low, key_number, Begins, IsFirstDifference}
 use Rattle.node_table.proofs.KeyLaws.{goes_on, Begins-take, key_number_at, split_at, AreBytes-append_right}
 use Rattle.spec_map.proofs.MapLaws.{Rises-put}
 use Rattle.node_table.proofs.ChildrenLaws as laws
 use Rattle.node_table.proofs.SoundLaws.{AreBytes-take, sound_from, sound-put}
 use Rattle.node_table.specs.Table.{IsSound}
-use Rattle.node_table.specs.TableNode.{TableNode, Child}
+use Rattle.spec_node.specs.TableNode.{TableNode, Child}
 use Rattle.node_table.specs.Table.{NodeTable, node_at, pairs_at, IsTree, IsChild}
-use Rattle.node_table.specs.Key.{next_byte}
+use Rattle.spec_node.specs.Key.{next_byte}
 use Rattle.tree_path.specs.inner.Descent.{PathTo, EndsAt, Differs, Absent, Present, EndPlace}
 use Rattle.tree_path.specs.inner.Root.{depth}
 use Rattle.tree_edit.specs.inner.Writes.{SameElsewhere, WritesChild, IsLeafOf, IsStoredFor, Adds, Splits}
-use Rattle.node_table.specs.declared.child.Child.TheVariants.{Payload, Node}
+use Rattle.spec_node.specs.declared.child.Child.TheVariants.{Payload, Node}
 use Rattle.node_table.proofs.TableLaws.{under, IsChild-found}
 use Rattle.node_table.proofs.DownLaws.{KeepsOthers}
 use Rattle.node_table.proofs.WriteLaws.{KeepsSlots, Are-same, pairs-same, write}

@@ -2,7 +2,7 @@
 use Rattle.std.proofs.Common.{◌≡◌, ℕ, ◌+◌, List, [], length, Option, refl, ap, subst}
 use Rattle.std.specs.Int.{from_be_bytes, w64}
 use Rattle.node_table.specs.Charge.{Charge}
-use Rattle.node_table.specs.Key.{AreBytes}
+use Rattle.spec_node.specs.Key.{AreBytes}
 use Rattle.node_table.specs.Table.{NodeTable, pairs_at, nodes_at}
 use Rattle.tree_path.specs.inner.Descent.{SeeksTo}
 use Rattle.tree_path.specs.inner.Root.{depth, HasTree}

@@ -2,10 +2,10 @@
 use Rattle.std.proofs.Common.{◌≡◌, ◌≢◌, ℕ, suc, ◌+◌, ◌<◌, List, [], ◌∷◌, ◌++◌, length, Some, refl, ap, sym, subst, ◌∙◌, arith}
 use Rattle.spec_map.specs.Map.{lookup, put}
 use Rattle.spec_map.proofs.MapLaws.{lookup-put_same}
-use Rattle.node_table.specs.Key.{AreBytes, Begins, next_byte}
-use Rattle.node_table.specs.TableNode.{TableNode}
+use Rattle.spec_node.specs.Key.{AreBytes, Begins, next_byte}
+use Rattle.spec_node.specs.TableNode.{TableNode}
 use Rattle.node_table.specs.Table.{NodeTable, node_at, IsTree}
-use Rattle.node_table.specs.declared.child.Child.TheVariants.{Node}
+use Rattle.spec_node.specs.declared.child.Child.TheVariants.{Node}
 use Rattle.node_table.proofs.BeginLaws.{begins_append}
 use Rattle.node_table.proofs.DownLaws.{KeepsOthers, Begins-trans}
 use Rattle.node_table.proofs.KeyLaws.{goes_on}

@@ -5,9 +5,9 @@ use Rattle.spec_map.specs.Refusal.{IsFullOrAbsent}
 use Rattle.node_base.specs.Form.{Fits}
 use Rattle.node_base.specs.declared.base_node.NodeType.{NodeType}
 use Rattle.node_base.specs.declared.base_node.NodeType.TheVariants.{N4, N16, N48, N256}
-use Rattle.node_table.specs.TableNode.{TableNode, TableNodeOf}
+use Rattle.spec_node.specs.TableNode.{TableNode, TableNodeOf}
 use Rattle.node_table.specs.Table.{NodeTable, node_at}
-use Rattle.node_table.specs.declared.child.Child.TheVariants.{Payload, Node}
+use Rattle.spec_node.specs.declared.child.Child.TheVariants.{Payload, Node}
 use Rattle.node_table.proofs.KindLaws.{length-mapped}
 use Rattle.tree_path.specs.declared.descent.Stop.TheVariants as stops
 use Rattle.tree_edit.specs.inner.Takes as takes_out

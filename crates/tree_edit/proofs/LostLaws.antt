@@ -2,11 +2,11 @@
 use Rattle.std.proofs.Common.{◌≡◌, ◌≢◌, ℕ, suc, ◌+◌, ◌<◌, ◌≤◌, List, [], ◌∷◌, ◌++◌, length, Some, None, IsSome, refl, ap, sym, subst, ◌∙◌, arith, inl, inr, append_assoc, append-nil, length-append}
 use Rattle.std.proofs.lemmas.Bool.{eq-eqb, ne_eqb, cases_order, cases_eq}
 use Rattle.spec_map.specs.Map.{lookup, without, Rises}
-use Rattle.node_table.specs.Key.{low, high, Begins}
-use Rattle.node_table.specs.TableNode.{TableNode, Child}
+use Rattle.spec_node.specs.Key.{low, high, Begins}
+use Rattle.spec_node.specs.TableNode.{TableNode, Child}
 use Rattle.node_table.specs.Table.{NodeTable, NodeInfo, node_at, node_info, pairs_of, pairs_at, nodes_under, nodes_of, nodes_at, AreChildren, IsTree}
 use Rattle.node_table.specs.Shape.{AreUnder}
-use Rattle.node_table.specs.declared.child.Child.TheVariants.{Payload, Node}
+use Rattle.spec_node.specs.declared.child.Child.TheVariants.{Payload, Node}
 use Rattle.node_table.proofs.BeginLaws.{after, begins_append}
 use Rattle.spec_map.proofs.MapLaws.{lookup-below, lookup-without_same}
 use Rattle.spec_map.proofs.ByteMapLaws.{length-without_present}

@@ -6,7 +6,7 @@ use Rattle.tree_path.specs.inner.Supply.{count, one, with_form, no_forms, size_o
 use Rattle.tree_path.specs.declared.supply.FormCounts.{FormCounts}
 use Rattle.node_table.proofs.BeginLaws.{begins_append}
 use Rattle.node_table.specs.Table.{NodeTable, node_at, pairs_at, nodes_at, node_info, IsTree}
-use Rattle.node_table.specs.TableNode.{TableNode}
+use Rattle.spec_node.specs.TableNode.{TableNode}
 use Rattle.node_table.proofs.WriteLaws.{Are-same, pairs-same}
 use Rattle.tree_edit.proofs.InfoLaws.{nodes-same}
 use Rattle.node_table.proofs.SoundLaws.{sound_from}

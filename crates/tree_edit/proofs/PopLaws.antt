@@ -4,7 +4,7 @@ use Rattle.std.specs.Int.{from_be_bytes, to_be_bytes}
 use Rattle.std.proofs.lemmas.Nat.{from_be_bytes-to_be_bytes_8}
 use Rattle.node_table.specs.Charge.{Charge}
 use Rattle.spec_map.specs.Map.{lookup}
-use Rattle.node_table.specs.Key.{AreBytes}
+use Rattle.spec_node.specs.Key.{AreBytes}
 use Rattle.node_table.specs.Table.{NodeTable, pairs_at, nodes_at}
 use Rattle.tree_path.specs.declared.descent.PathEnd.{PathEnd}
 use Rattle.tree_path.specs.inner.Descent.{SeeksTo}

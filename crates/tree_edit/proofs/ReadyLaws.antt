@@ -3,10 +3,10 @@ use Rattle.std.proofs.Common.{◌≡◌, ℕ, zero, suc, ◌+◌, ◌-◌, ◌<�
 use Rattle.std.specs.Global.{Vec}
 use Rattle.spec_map.specs.Map.{lookup}
 use Rattle.node_base.specs.declared.base_node.NodeType.TheVariants.{N4}
-use Rattle.node_table.specs.Key.{AreBytes, Begins, next_byte}
-use Rattle.node_table.specs.TableNode.{TableNode, Child}
+use Rattle.spec_node.specs.Key.{AreBytes, Begins, next_byte}
+use Rattle.spec_node.specs.TableNode.{TableNode, Child}
 use Rattle.node_table.specs.Table.{NodeTable, node_at, nodes_at, IsTree}
-use Rattle.node_table.specs.declared.child.Child.TheVariants.{Payload, Node}
+use Rattle.spec_node.specs.declared.child.Child.TheVariants.{Payload, Node}
 use Rattle.node_table.proofs.KeyLaws.{goes_on}
 use Rattle.node_table.proofs.TableLaws.{open_subtree}
 use Rattle.tree_path.specs.inner.Descent.{Absent, Differs, EndsAt, Halts, LeadsTo, PathTo, SeeksTo}

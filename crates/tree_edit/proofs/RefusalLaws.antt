@@ -5,9 +5,9 @@ use Rattle.std.proofs.lemmas.Bool.{cases_order, cases_eq}
 use Rattle.node_table.proofs.BeginLaws.{after, begins_itself}
 use Rattle.spec_map.specs.Map.{lookup, between}
 use Rattle.spec_map.specs.Refusal.{IsFullOrAbsent, NeedsNode, leaf_pairs}
-use Rattle.node_table.specs.Key.{AreBytes, low, high, key_number, Begins, IsFirstDifference}
+use Rattle.spec_node.specs.Key.{AreBytes, low, high, key_number, Begins, IsFirstDifference}
 use Rattle.node_table.specs.Table.{NodeTable, node_at, pairs_at, IsTree}
-use Rattle.node_table.specs.TableNode.{TableNode}
+use Rattle.spec_node.specs.TableNode.{TableNode}
 use Rattle.spec_map.proofs.RangeLaws.{between-all, between-above}
 use Rattle.tree_path.proofs.ShareLaws.{between-below, between-pairs_of, sharing_is, leaf_length}
 use Rattle.node_table.proofs.KeyLaws.{goes_on, low-begins, high-begins, byte_order, Begins-take, Begins-at_difference_left, Begins-at_difference_right}
@@ -15,7 +15,7 @@ use Rattle.node_table.proofs.SoundLaws.{AreBytes-take}
 use Rattle.node_table.proofs.ChildrenLaws as laws
 use Rattle.node_table.proofs.TableLaws.{under, tree_rises, open_subtree}
 use Rattle.node_table.proofs.DownLaws.{Begins-trans}
-use Rattle.node_table.specs.Key.{next_byte}
+use Rattle.spec_node.specs.Key.{next_byte}
 use Rattle.tree_path.specs.inner.Descent.{PathTo, FindsEnd, EndsAt, Differs, Absent, EndPlace}
 use Rattle.tree_path.specs.inner.Root.{depth}
 use Rattle.tree_path.proofs.PathEndLaws.{lookup_end}

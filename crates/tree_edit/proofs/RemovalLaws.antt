@@ -1,12 +1,12 @@
 -- What the steps of a removal require and leave, by what they say of the nodes that are seen.
 use Rattle.std.proofs.Common.{◌≡◌, ℕ, zero, suc, ◌+◌, ◌<◌, List, [], ◌∷◌, length, get_or, map, Option, Some, None, IsSome, IsTrue, nat_eq, refl, ap, sym, subst, ◌∙◌, arith, inl, inr}
-use Rattle.node_table.specs.Key.{next_byte}
-use Rattle.node_table.specs.TableNode.{TableNode, Child}
+use Rattle.spec_node.specs.Key.{next_byte}
+use Rattle.spec_node.specs.TableNode.{TableNode, Child}
 use Rattle.node_table.specs.Table.{NodeTable, node_at, IsTree}
 use Rattle.std.proofs.lemmas.Bool.{cases_eq, eqb-true}
 use Rattle.spec_map.specs.Map.{lookup, without}
 use Rattle.node_base.specs.declared.base_node.NodeType.TheVariants.{N4}
-use Rattle.node_table.specs.declared.child.Child.TheVariants.{Payload, Node}
+use Rattle.spec_node.specs.declared.child.Child.TheVariants.{Payload, Node}
 use Rattle.node_table.proofs.NodesLaws.{none_below_seven}
 use Rattle.node_table.proofs.TableLaws.{IsChild-found}
 use Rattle.tree_path.specs.inner.Descent.{Halts, IsTrail, LeadsTo, PathTo, SeeksTo}

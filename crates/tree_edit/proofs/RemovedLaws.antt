@@ -3,7 +3,7 @@ use Rattle.std.proofs.Common.{◌≡◌, ℕ, ◌-◌, ◌≤◌, List, [], leng
 use Rattle.std.specs.Int.{from_be_bytes, to_be_bytes, w64}
 use Rattle.std.proofs.lemmas.Nat.{be_bytes_8}
 use Rattle.node_table.specs.Charge.{Charge}
-use Rattle.node_table.specs.Key.{AreBytes}
+use Rattle.spec_node.specs.Key.{AreBytes}
 use Rattle.node_table.specs.Table.{NodeTable, pairs_at, nodes_at}
 use Rattle.node_table.proofs.KeyLaws.{key_number-be_bytes}
 use Rattle.tree_path.specs.inner.Descent.{IsTrail, SeeksTo}

@@ -2,10 +2,10 @@
 use Rattle.std.proofs.Common.{◌≡◌, ◌≢◌, ℕ, suc, ◌+◌, ◌<◌, List, [], ◌∷◌, ◌++◌, length, Some, IsSome, ◌⊎◌, refl, ap, sym, subst, ◌∙◌, arith, inl, inr, length-append}
 use Rattle.spec_map.specs.Map.{lookup, without}
 use Rattle.spec_map.proofs.ByteMapLaws.{length-without_present}
-use Rattle.node_table.specs.Key.{AreBytes, key_number, Begins, next_byte}
-use Rattle.node_table.specs.TableNode.{TableNode}
+use Rattle.spec_node.specs.Key.{AreBytes, key_number, Begins, next_byte}
+use Rattle.spec_node.specs.TableNode.{TableNode}
 use Rattle.node_table.specs.Table.{NodeTable, node_at, node_info, pairs_at, nodes_at, IsTree}
-use Rattle.node_table.specs.declared.child.Child.TheVariants.{Node}
+use Rattle.spec_node.specs.declared.child.Child.TheVariants.{Node}
 use Rattle.node_table.proofs.BeginLaws.{after, begins_append}
 use Rattle.node_table.proofs.DownLaws.{Begins-trans}
 use Rattle.node_table.proofs.KeyLaws.{goes_on}

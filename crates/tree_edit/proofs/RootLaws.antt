@@ -1,10 +1,10 @@
 -- The root keeps its form and its prefix.
 use Rattle.std.proofs.Common.{◌≡◌, ℕ, List, [], length, Some, refl, ap, sym, subst, ◌∙◌, arith, inl, inr}
 use Rattle.std.proofs.lemmas.Bool.{cases_eq}
-use Rattle.node_table.specs.Key.{IsFirstDifference}
+use Rattle.spec_node.specs.Key.{IsFirstDifference}
 use Rattle.node_table.specs.Shape.{grown_form}
 use Rattle.node_table.specs.Table.{NodeTable, node_at}
-use Rattle.node_table.specs.TableNode.{TableNode, Child}
+use Rattle.spec_node.specs.TableNode.{TableNode, Child}
 use Rattle.node_base.specs.declared.base_node.NodeType.{NodeType}
 use Rattle.node_base.specs.declared.base_node.NodeType.TheVariants.{N256}
 use Rattle.node_table.proofs.WriteLaws.{KeepsSlots}

@@ -9,11 +9,11 @@ use Rattle.spec_map.proofs.MapLaws.{lookup-first, lookup-below, lookup-between_i
 use Rattle.spec_map.proofs.RangeLaws.{between-next, between-within}
 use Rattle.node_base.specs.Form.{smaller_form}
 use Rattle.node_table.specs.Charge.{Charge}
-use Rattle.node_table.specs.Key.{AreBytes, Begins, begins, key_number}
+use Rattle.spec_node.specs.Key.{AreBytes, Begins, begins, key_number}
 use Rattle.node_table.specs.Table.{NodeTable, node_at, pairs_at, nodes_at, IsTree}
 use Rattle.node_table.proofs.KeyLaws.{key_number-be_bytes}
-use Rattle.node_table.specs.TableNode.{TableNode, Child}
-use Rattle.node_table.specs.declared.child.Child.TheVariants.{Payload, Node}
+use Rattle.spec_node.specs.TableNode.{TableNode, Child}
+use Rattle.spec_node.specs.declared.child.Child.TheVariants.{Payload, Node}
 use Rattle.tree_path.specs.inner.Descent.{Halts, IsOfOneKind, IsTrail, LeadsTo, SeeksTo}
 use Rattle.tree_path.specs.inner.Root.{depth, tree_pairs}
 use Rattle.tree_path.specs.inner.Supply.{Alike, AreFew, IsCountedAt, SupplyView}

@@ -1,9 +1,9 @@
 -- A tree that is the same in another table: what is known of it holds there.
 use Rattle.std.proofs.Common.{◌≡◌, ℕ, zero, suc, List, [], ◌∷◌, length, Some, refl, ap, sym, subst, ◌∙◌}
-use Rattle.node_table.specs.Key.{key_number}
+use Rattle.spec_node.specs.Key.{key_number}
 use Rattle.node_table.specs.Shape.{Reshapes}
 use Rattle.node_table.specs.Table.{NodeTable, NodeInfo, node_at, node_info, nodes_of, nodes_at, IsTree}
-use Rattle.node_table.specs.TableNode.{TableNode}
+use Rattle.spec_node.specs.TableNode.{TableNode}
 use Rattle.node_table.proofs.DownLaws.{KeepsBelow, frame}
 use Rattle.node_table.proofs.NodesLaws.{below, frame_nodes}
 use Rattle.spec_map.specs.Map.{lookup, put}

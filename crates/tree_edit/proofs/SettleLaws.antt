@@ -5,10 +5,10 @@ use Rattle.spec_map.specs.Map.{lookup, without, Rises}
 use Rattle.spec_map.proofs.MapLaws.{lookup-without_same, lookup-without_other}
 use Rattle.node_base.specs.Form.{smaller_form}
 use Rattle.node_base.specs.declared.base_node.NodeType.TheVariants.{N4}
-use Rattle.node_table.specs.Key.{Begins, next_byte}
-use Rattle.node_table.specs.TableNode.{TableNode, Child, MayHave}
+use Rattle.spec_node.specs.Key.{Begins, next_byte}
+use Rattle.spec_node.specs.TableNode.{TableNode, Child, MayHave}
 use Rattle.node_table.specs.Table.{NodeTable, node_at}
-use Rattle.node_table.specs.declared.child.Child.TheVariants.{Payload, Node}
+use Rattle.spec_node.specs.declared.child.Child.TheVariants.{Payload, Node}
 use Rattle.node_table.proofs.BeginLaws.{begins_append}
 use Rattle.node_table.proofs.DownLaws.{Begins-trans}
 use Rattle.node_table.proofs.TableLaws.{open_subtree}

@@ -5,20 +5,20 @@ use Rattle.std.proofs.lemmas.Bool.{lt-ltb, le-ltb, ne_eqb, cases_order}
 use Rattle.std.proofs.Math.Seq.{take-append_seam}
 use Rattle.node_table.proofs.BeginLaws.{after}
 use Rattle.spec_map.specs.Map.{lookup, put}
-use Rattle.node_table.specs.Key.{AreBytes, Begins, IsFirstDifference}
+use Rattle.spec_node.specs.Key.{AreBytes, Begins, IsFirstDifference}
 use Rattle.node_table.specs.Table.{NodeTable, NodeInfo, node_at, node_info, nodes_of, nodes_at, IsTree}
 use Rattle.node_table.specs.Shape.{Replaces, FillsLeaf, AddsLeaf, SplitsNode, with_one_more, grown_form, new_leaf, in_order}
 use Rattle.node_base.specs.declared.base_node.NodeType.{NodeType}
 use Rattle.node_base.specs.declared.base_node.NodeType.TheVariants.{N4}
-use Rattle.node_table.specs.TableNode.{TableNode, Child}
-use Rattle.node_table.specs.declared.child.Child.TheVariants.{Payload, Node}
+use Rattle.spec_node.specs.TableNode.{TableNode, Child}
+use Rattle.spec_node.specs.declared.child.Child.TheVariants.{Payload, Node}
 use Rattle.spec_map.proofs.ByteMapLaws.{length-put_new, length-put_some}
 use Rattle.node_table.proofs.KeyLaws.{goes_on, Begins-at_difference_left, Begins-at_difference_right, length-common}
 use Rattle.node_table.proofs.TableLaws.{IsChild-found}
 use Rattle.node_table.proofs.DownLaws.{KeepsOthers}
 use Rattle.node_table.proofs.WriteLaws.{KeepsSlots, kept_children, AreChildren-put}
 use Rattle.node_table.proofs.NodesLaws.{below, all_below, Replaces-trans, Replaces-all, down_nodes, kept_nodes, relevel_nodes, leaf_nodes, leaf_alone, put_among}
-use Rattle.node_table.specs.Key.{next_byte}
+use Rattle.spec_node.specs.Key.{next_byte}
 use Rattle.tree_path.specs.inner.Descent.{PathTo, EndsAt, Differs, Absent, Present, EndPlace}
 use Rattle.tree_path.specs.inner.Root.{depth}
 use Rattle.tree_edit.specs.inner.Writes.{SameElsewhere, WritesChild, IsLeafOf, IsStoredFor, Adds, Splits}

@@ -8,10 +8,10 @@ use Rattle.spec_map.specs.Map.{lookup, between, Rises}
 use Rattle.spec_map.specs.Near.{first_of, last_of}
 use Rattle.spec_map.proofs.MapLaws.{lookup-below}
 use Rattle.spec_map.proofs.RangeLaws.{between-all}
-use Rattle.node_table.specs.Key.{AreBytes, Begins, key_number, next_byte}
-use Rattle.node_table.specs.TableNode.{TableNode}
+use Rattle.spec_node.specs.Key.{AreBytes, Begins, key_number, next_byte}
+use Rattle.spec_node.specs.TableNode.{TableNode}
 use Rattle.node_table.specs.Table.{NodeTable, node_at, pairs_at, IsTree}
-use Rattle.node_table.specs.declared.child.Child.TheVariants as children
+use Rattle.spec_node.specs.declared.child.Child.TheVariants as children
 use Rattle.node_table.proofs.BeginLaws.{after as after_prefix, begins_append, begins_by}
 use Rattle.node_table.proofs.DownLaws.{Begins-trans}
 use Rattle.node_table.proofs.KeyLaws.{AreBytes-append, key_number-be_bytes}

@@ -1,10 +1,10 @@
 -- Slots of a table, and what several writes do one after another.
 use Rattle.std.proofs.Common.{◌≡◌, ◌≢◌, Some, get_or, slice_set, None, length, ◌<◌, List, [], ◌∷◌, Option, ℕ, zero, suc, arith, subst, sym, ap, refl, ◌∙◌}
 use Rattle.spec_map.specs.Map.{put}
-use Rattle.node_table.specs.TableNode.{TableNode}
+use Rattle.spec_node.specs.TableNode.{TableNode}
 use Rattle.node_table.specs.Table.{NodeTable, node_at}
 use Rattle.tree_edit.specs.inner.Writes.{SameElsewhere, MakesRoom, WritesChild, IsLeafOf, empty_leaf, Adds, AddsLeafFor, Splits, SplitsFor}
-use Rattle.node_table.specs.declared.child.Child.TheVariants.{Payload, Node}
+use Rattle.spec_node.specs.declared.child.Child.TheVariants.{Payload, Node}
 
 -- a slot that has a node is within the table
 pub in_range : {X : Type 0} (s : List (Option X)) (i : ℕ) (n : X) → get_or s i None ≡ Some n → i < length s

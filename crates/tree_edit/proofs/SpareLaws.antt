@@ -6,7 +6,7 @@ use Rattle.node_base.specs.declared.base_node.NodeType.{NodeType}
 use Rattle.node_base.specs.declared.base_node.NodeType.TheVariants.{N48, N256}
 use Rattle.node_rows.specs.Spare.{IsSpareFor}
 use Rattle.node_table.specs.Shape.{grown_form}
-use Rattle.node_table.specs.TableNode.{TableNode}
+use Rattle.spec_node.specs.TableNode.{TableNode}
 use Rattle.node_table.specs.Table.{NodeTable, node_at}
 use Rattle.tree_links.specs.Spares.{HasSpare, KeepsSpare}
 use Rattle.tree_edit.specs.inner.Writes.{MakesRoom}

@@ -4,13 +4,13 @@ use Rattle.std.proofs.lemmas.Bool.{ne_eqb}
 use Rattle.std.proofs.lemmas.List.{length-take, take-append-drop, drop_all}
 use Rattle.node_table.proofs.BeginLaws.{after, begins_by}
 use Rattle.spec_map.specs.Map.{lookup, put}
-use Rattle.node_table.specs.Key.{AreBytes, low, high, key_number, Begins, IsFirstDifference}
+use Rattle.spec_node.specs.Key.{AreBytes, low, high, key_number, Begins, IsFirstDifference}
 use Rattle.node_table.proofs.KeyLaws.{goes_on, Begins-take, Begins-at_difference_left, length-common, split_at, AreBytes-append_right}
 use Rattle.node_table.proofs.ChildrenLaws as laws
 use Rattle.node_table.specs.Table.{IsSound}
-use Rattle.node_table.specs.TableNode.{TableNode, Child}
+use Rattle.spec_node.specs.TableNode.{TableNode, Child}
 use Rattle.node_table.specs.Table.{NodeTable, node_at, pairs_of, pairs_at, AreChildren, IsTree}
-use Rattle.node_table.specs.declared.child.Child.TheVariants.{Payload, Node}
+use Rattle.spec_node.specs.declared.child.Child.TheVariants.{Payload, Node}
 use Rattle.node_table.proofs.TableLaws.{under, tree_rises, all_rise, same_pairs}
 use Rattle.node_table.proofs.WriteLaws.{KeepsSlots, kept_children, Are-same, pairs-same, AreChildren-put}
 

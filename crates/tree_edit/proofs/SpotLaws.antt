@@ -2,10 +2,10 @@
 use Rattle.std.proofs.Common.{◌≡◌, ◌<◌, ℕ, List, [], length, get_or, Some, None, refl, ap, sym, subst, ◌∙◌, arith}
 use Rattle.spec_map.specs.Map.{lookup}
 use Rattle.spec_map.specs.Refusal.{NeedsNode}
-use Rattle.node_table.specs.Key.{AreBytes, key_number}
+use Rattle.spec_node.specs.Key.{AreBytes, key_number}
 use Rattle.node_table.specs.Table.{NodeTable, node_at, pairs_at, nodes_at}
-use Rattle.node_table.specs.TableNode.{TableNode}
-use Rattle.node_table.specs.declared.child.Child.TheVariants.{Payload, Node}
+use Rattle.spec_node.specs.TableNode.{TableNode}
+use Rattle.spec_node.specs.declared.child.Child.TheVariants.{Payload, Node}
 use Rattle.tree_path.specs.inner.Descent.{FindsEnd, Halts, SeeksTo, EndsAt, End, Differs, Absent, Present}
 use Rattle.tree_path.specs.inner.Root.{depth, HasRoot}
 use Rattle.tree_path.specs.declared.descent.Stop.{Stop}

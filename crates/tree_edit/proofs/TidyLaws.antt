@@ -5,10 +5,10 @@ use Rattle.node_base.specs.Form.{smaller_form}
 use Rattle.node_base.specs.declared.base_node.NodeType.{NodeType}
 use Rattle.spec_map.specs.Map.{lookup}
 use Rattle.std.proofs.lemmas.Bool.{eq-eqb, cases_eq}
-use Rattle.node_table.specs.Key.{AreBytes, low, Begins, next_byte, key_number}
-use Rattle.node_table.specs.TableNode.{TableNode, Child}
+use Rattle.spec_node.specs.Key.{AreBytes, low, Begins, next_byte, key_number}
+use Rattle.spec_node.specs.TableNode.{TableNode, Child}
 use Rattle.node_table.specs.Table.{NodeTable, NodeInfo, node_at, node_info, nodes_at, IsTree}
-use Rattle.node_table.specs.declared.child.Child.TheVariants.{Payload, Node}
+use Rattle.spec_node.specs.declared.child.Child.TheVariants.{Payload, Node}
 use Rattle.node_table.proofs.BeginLaws.{after}
 use Rattle.node_table.proofs.KeyLaws.{goes_on, key_number_at}
 use Rattle.tree_path.specs.inner.Descent.{PathTo, IsTrail, Halts, LeadsTo, SeeksTo}

@@ -3,14 +3,14 @@ use Rattle.std.proofs.Common.{◌≡◌, ℕ, zero, suc, ◌+◌, ◌*◌, ◌<�
 use Rattle.std.proofs.lemmas.Bool.{lt-ltb, le-ltb, cases_order}
 use Rattle.std.proofs.Math.Nat.{mul-le-mul_right}
 use Rattle.node_base.specs.Form.{stated_size}
-use Rattle.node_table.specs.Key.{next_byte}
+use Rattle.spec_node.specs.Key.{next_byte}
 use Rattle.node_table.specs.Shape.{Replaces, FillsLeaf, AddsLeaf, SplitsNode, grown_form, new_leaf, in_order}
 use Rattle.tree_edit.specs.Reduce.{LosesKey}
 use Rattle.node_table.specs.Table.{NodeTable, NodeInfo, nodes_of, nodes_at, AreChildren, IsTree}
 use Rattle.node_base.specs.declared.base_node.NodeType.{NodeType}
 use Rattle.node_base.specs.declared.base_node.NodeType.TheVariants.{N4, N16, N48, N256}
-use Rattle.node_table.specs.TableNode.{Child}
-use Rattle.node_table.specs.declared.child.Child.TheVariants.{Payload, Node}
+use Rattle.spec_node.specs.TableNode.{Child}
+use Rattle.spec_node.specs.declared.child.Child.TheVariants.{Payload, Node}
 use Rattle.spec_map.proofs.ByteMapLaws.{length-from_Rises}
 use Rattle.node_table.proofs.NodesLaws.{below}
 use Rattle.tree_path.specs.Charge.{total, charge_of}

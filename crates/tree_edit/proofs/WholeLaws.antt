@@ -1,10 +1,10 @@
 -- What each end of an insertion leaves of the whole tree, and that what was found allows it.
 use Rattle.std.proofs.Common.{Bor, ◌≡◌, ℕ, ◌<◌, List, [], length, Option, Some, None, sym, subst, arith}
 use Rattle.spec_map.specs.Map.{lookup, put}
-use Rattle.node_table.specs.Key.{AreBytes, key_number}
+use Rattle.spec_node.specs.Key.{AreBytes, key_number}
 use Rattle.node_table.specs.Shape.{Reshapes}
 use Rattle.node_table.specs.Table.{NodeTable, pairs_at, nodes_at, IsTree}
-use Rattle.node_table.specs.declared.child.Child.TheVariants.{Payload}
+use Rattle.spec_node.specs.declared.child.Child.TheVariants.{Payload}
 use Rattle.node_table.proofs.TableLaws.{open_subtree}
 use Rattle.tree_path.specs.inner.Descent.{FindsEnd, EndsAt, Differs, Absent, Present, EndPlace}
 use Rattle.tree_path.specs.inner.Root.{depth, HasRoot}

@@ -2,14 +2,14 @@
 use Rattle.std.proofs.Common.{◌≡◌, ℕ, ◌+◌, ◌<◌, ◌≤◌, List, [], ◌∷◌, ◌++◌, length, Some, refl, ap, sym, subst, ◌∙◌, arith, inl, inr}
 use Rattle.std.proofs.lemmas.Bool.{eq-eqb, ne_eqb, cases_order, cases_eq}
 use Rattle.spec_map.specs.Map.{lookup, without, Rises}
-use Rattle.node_table.specs.Key.{low, high}
+use Rattle.spec_node.specs.Key.{low, high}
 use Rattle.node_table.proofs.KeyLaws.{byte_order}
 use Rattle.spec_map.proofs.MapLaws.{lookup-below, without-absent, Rises-without}
 use Rattle.spec_map.proofs.LocalLaws.{IsLocal}
 use Rattle.node_table.proofs.ChildrenLaws as laws
 use Rattle.node_table.proofs.SoundLaws.{sound_from}
 use Rattle.node_table.specs.Table.{IsSound}
-use Rattle.node_table.specs.TableNode.{TableNode, Child}
+use Rattle.spec_node.specs.TableNode.{TableNode, Child}
 use Rattle.node_table.specs.Table.{AreChildren}
 
 module _ {V : Type 0} where

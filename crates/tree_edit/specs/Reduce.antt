@@ -1,7 +1,7 @@
 -- What a removal does to the nodes of a tree.
 use Rattle.std.specs.Prelude.{◌≡◌, ◌≢◌, ℕ, ◌-◌, ◌<◌, ◌≤◌, List, [], ◌∷◌, ◌++◌, length, Option, Some, None, ◌⊎◌}
 use Rattle.node_base.specs.Form.{few_in, smaller_form}
-use Rattle.node_table.specs.Key.{Begins, next_byte}
+use Rattle.spec_node.specs.Key.{Begins, next_byte}
 use Rattle.node_table.specs.Table.{NodeInfo}
 use Rattle.node_table.specs.Shape.{Replaces, AreUnder}
 

@@ -13,7 +13,7 @@ ghost use Rattle.std.specs.Int.{from_be_bytes, w64};
 ghost use Rattle.node_base.specs.Form.{next_form};
 ghost use Rattle.node_base.specs.declared.base_node.NodeType.{NodeType};
 ghost use Rattle.node_base.specs.declared.base_node.NodeType.TheVariants.{N4};
-ghost use Rattle.node_table.specs.TableNode.{TableNode};
+ghost use Rattle.spec_node.specs.TableNode.{TableNode};
 ghost use Rattle.node_table.specs.Table.{node_at};
 ghost use Rattle.tree_path.specs.inner.Supply.{count, with_form, CountsGrown, IsCountedAt, AreFew, Alike, Trades};
 ghost use Rattle.tree_edit.specs.TreeCalls.{Inserts, ComputesOrInserts, ReadsPath};

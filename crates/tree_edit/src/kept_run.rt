@@ -7,7 +7,7 @@ ghost use Rattle.std.specs.Prelude.{◌≡◌, ℕ, ◌+◌, ◌<◌, ◌≤◌,
 ghost use Rattle.std.specs.Int.{from_be_bytes, w64};
 ghost use Rattle.spec_map.specs.Map.{Pairs, lookup, without};
 ghost use Rattle.node_table.specs.Table.{node_at};
-ghost use Rattle.node_table.specs.TableNode.{TableNode};
+ghost use Rattle.spec_node.specs.TableNode.{TableNode};
 ghost use Rattle.tree_path.specs.inner.Root.{tree_pairs};
 ghost use Rattle.tree_path.specs.inner.Supply.{Alike};
 ghost use Rattle.tree_edit.specs.Calls.{Asking, HasNoneAfter};

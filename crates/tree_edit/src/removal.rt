@@ -11,7 +11,7 @@ ghost use Rattle.std.specs.Int.{from_be_bytes, w64};
 ghost use Rattle.node_base.specs.Form.{smaller_form};
 ghost use Rattle.node_base.specs.declared.base_node.NodeType.TheVariants.{N4};
 ghost use Rattle.node_table.specs.Table.{NodeTable, node_at};
-ghost use Rattle.node_table.specs.TableNode.{TableNode};
+ghost use Rattle.spec_node.specs.TableNode.{TableNode};
 ghost use Rattle.tree_path.specs.inner.Descent.{SeeksTo};
 ghost use Rattle.tree_path.specs.inner.Root.{HasTree};
 ghost use Rattle.tree_path.specs.inner.Supply.{count, IsCountedAt, AreFew, Alike, Trades};

@@ -1,9 +1,9 @@
 -- A tree whose nodes all have other places in another table is the same tree.
 use Rattle.std.proofs.Common.{◌≡◌, ℕ, zero, suc, ◌+◌, List, [], ◌∷◌, ◌++◌, length, Some, refl, ap, sym, subst, ◌∙◌, arith, length-append}
 use Rattle.spec_map.specs.Map.{Rises}
-use Rattle.node_table.specs.TableNode.{TableNode, Child}
+use Rattle.spec_node.specs.TableNode.{TableNode, Child}
 use Rattle.node_table.specs.Table.{IsSound, NodeTable, node_at, node_info, pairs_under, pairs_of, pairs_at, nodes_under, nodes_of, IsChild, AreChildren, IsTree}
-use Rattle.node_table.specs.declared.child.Child.TheVariants.{Payload, Node}
+use Rattle.spec_node.specs.declared.child.Child.TheVariants.{Payload, Node}
 use Rattle.node_table.proofs.BeginLaws.{after}
 use Rattle.node_table.proofs.NodesLaws.{below}
 use Rattle.tree_links.proofs.TreeLaws.{SameIn}

@@ -3,10 +3,10 @@ use Rattle.std.proofs.Common.{◌≡◌, ℕ, ◌+◌, ◌-◌, ◌<◌, List, [
 use Rattle.std.specs.Option.{option_map}
 use Rattle.spec_map.specs.Map.{lookup}
 use Rattle.node_base.specs.Form.{Fits}
-use Rattle.node_table.specs.Key.{Begins, IsFirstDifference}
-use Rattle.node_table.specs.TableNode.{TableNode}
+use Rattle.spec_node.specs.Key.{Begins, IsFirstDifference}
+use Rattle.spec_node.specs.TableNode.{TableNode}
 use Rattle.node_table.specs.Table.{NodeTable, node_at}
-use Rattle.node_table.specs.declared.child.Child.TheVariants as children
+use Rattle.spec_node.specs.declared.child.Child.TheVariants as children
 use Rattle.tree_links.specs.LinkNode.{LinkNode}
 use Rattle.tree_links.specs.LinksView.{LinksView}
 use Rattle.tree_links.specs.PairCalls.{IsOpenFor, HasBelow, HasLeaf}

@@ -2,10 +2,10 @@
 use Rattle.std.proofs.Common.{◌≡◌, ℕ, suc, ◌+◌, ◌<◌, ◌⊎◌, List, [], ◌∷◌, length, get_or, Option, Some, None, refl, ap, sym, subst, ◌∙◌, arith, inl, inr}
 use Rattle.std.specs.Option.{option_map}
 use Rattle.spec_map.specs.Map.{lookup, Rises}
-use Rattle.node_table.specs.TableNode.{TableNode}
+use Rattle.spec_node.specs.TableNode.{TableNode}
 use Rattle.node_table.specs.Table.{IsSound, node_at}
 use Rattle.node_table.specs.inner.Kinds.{mapped}
-use Rattle.node_table.specs.declared.child.Child.TheVariants as children
+use Rattle.spec_node.specs.declared.child.Child.TheVariants as children
 use Rattle.node_table.proofs.KindLaws.{lookup-mapped}
 use Rattle.tree_path.specs.inner.Root.{HasTree, depth}
 use Rattle.tree_links.specs.LinkNode.{LinkNode}

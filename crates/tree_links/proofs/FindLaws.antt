@@ -4,8 +4,8 @@ use Rattle.std.proofs.lemmas.Bool.{eq-eqb, ne_eqb, cases_eq}
 use Rattle.std.proofs.lemmas.List.{length-take, take-append-drop}
 use Rattle.std.specs.Option.{option_map}
 use Rattle.spec_map.specs.Map.{lookup}
-use Rattle.node_table.specs.Key.{AreBytes, Begins, key_number, next_byte}
-use Rattle.node_table.specs.TableNode.{TableNode}
+use Rattle.spec_node.specs.Key.{AreBytes, Begins, key_number, next_byte}
+use Rattle.spec_node.specs.TableNode.{TableNode}
 use Rattle.node_table.specs.Table.{NodeTable, node_at, pairs_at, nodes_at}
 use Rattle.node_table.proofs.BeginLaws.{begins_by}
 use Rattle.node_table.proofs.KeyLaws.{goes_on}

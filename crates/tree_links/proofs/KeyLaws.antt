@@ -2,8 +2,8 @@
 use Rattle.std.proofs.Common.{◌≡◌, ℕ, suc, ◌≤◌, ◌⊎◌, List, [], ◌∷◌, ◌++◌, length, take, drop, get_or, refl, ap, sym, ◌∙◌, arith, inl, inr, length-append}
 use Rattle.std.proofs.lemmas.Bool.{cases_eq}
 use Rattle.std.proofs.lemmas.List.{length-take, drop_all}
-use Rattle.node_table.specs.Key.{Begins, IsFirstDifference}
-use Rattle.node_table.specs.TableNode.{TableNode, Child}
+use Rattle.spec_node.specs.Key.{Begins, IsFirstDifference}
+use Rattle.spec_node.specs.TableNode.{TableNode, Child}
 use Rattle.node_table.proofs.BeginLaws.{after, begins_by, begins_append, taken}
 use Rattle.node_table.proofs.KeyLaws.{split_at}
 use Rattle.tree_links.specs.SeenTable.{key_under, leaf_of}

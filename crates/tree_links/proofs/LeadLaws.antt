@@ -1,9 +1,9 @@
 -- A key's path in a table that has changed at its end, and the paths of other keys through the same nodes.
 use Rattle.std.proofs.Common.{◌≡◌, ℕ, zero, suc, ◌≤◌, List, [], ◌∷◌, ◌++◌, length, Some, refl, ap, sym, subst, ◌∙◌, arith}
 use Rattle.spec_map.specs.Map.{lookup}
-use Rattle.node_table.specs.Key.{AreBytes, Begins, next_byte}
+use Rattle.spec_node.specs.Key.{AreBytes, Begins, next_byte}
 use Rattle.node_table.specs.Table.{NodeTable, node_at, IsTree}
-use Rattle.node_table.specs.declared.child.Child.TheVariants.{Node}
+use Rattle.spec_node.specs.declared.child.Child.TheVariants.{Node}
 use Rattle.node_table.proofs.BeginLaws.{begins_append}
 use Rattle.node_table.proofs.DownLaws.{KeepsOthers, Begins-trans, one_byte}
 use Rattle.node_table.proofs.KeyLaws.{goes_on}

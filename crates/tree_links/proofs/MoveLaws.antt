@@ -3,7 +3,7 @@ use Rattle.std.proofs.Common.{◌≡◌, ◌≢◌, ℕ, zero, suc, ◌+◌, ◌
 use Rattle.std.proofs.lemmas.Bool.{cases_eq}
 use Rattle.spec_map.proofs.MapLaws.{lookup-put_same}
 use Rattle.std.specs.Option.{option_map}
-use Rattle.node_table.specs.TableNode.{TableNode}
+use Rattle.spec_node.specs.TableNode.{TableNode}
 use Rattle.tree_links.specs.LinkNode.{LinkNode, with_link}
 use Rattle.tree_links.specs.MovesNode.{MovesNode}
 use Rattle.tree_links.specs.SeenTable.{LinkTable, bytes, width, name_of, name_under, key_under, link_at, leaf_of, seen_link, seen_node, pair_at, pair_in, seen_table}

@@ -3,7 +3,7 @@ use Rattle.std.proofs.Common.{◌≡◌, ◌≢◌, ℕ, zero, suc, ◌+◌, ◌
 use Rattle.std.specs.Option.{option_map}
 use Rattle.spec_map.specs.Map.{lookup}
 use Rattle.node_base.specs.Form.{Fits, next_form, smaller_form}
-use Rattle.node_table.specs.TableNode.{TableNode}
+use Rattle.spec_node.specs.TableNode.{TableNode}
 use Rattle.node_table.specs.Table.{node_at}
 use Rattle.tree_links.specs.OtherForm.{GrowsNode, HasFewAt, ShrinksNode}
 use Rattle.tree_links.specs.LinkNode.{LinkNode}

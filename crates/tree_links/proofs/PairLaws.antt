@@ -3,10 +3,10 @@ use Rattle.std.proofs.Common.{◌≡◌, ◌≢◌, ℕ, zero, suc, ◌+◌, ◌
 use Rattle.std.proofs.lemmas.Bool.{le-ltb, lt-ltb, eq-eqb, ne_eqb, cases_order, cases_eq}
 use Rattle.spec_map.specs.Map.{lookup, put, Rises}
 use Rattle.spec_map.proofs.MapLaws.{lookup-below, lookup-put_same}
-use Rattle.node_table.specs.Key.{Begins}
-use Rattle.node_table.specs.TableNode.{TableNode}
+use Rattle.spec_node.specs.Key.{Begins}
+use Rattle.spec_node.specs.TableNode.{TableNode}
 use Rattle.node_table.specs.Table.{node_at}
-use Rattle.node_table.specs.declared.child.Child.TheVariants as children
+use Rattle.spec_node.specs.declared.child.Child.TheVariants as children
 use Rattle.tree_links.specs.LinkNode.{LinkNode, with_link, without_link}
 use Rattle.tree_links.specs.PairCalls.{GetsLeaf, ChangesLeaf, LosesLeaf}
 use Rattle.tree_links.specs.SeenTable.{LinkTable, bytes, width, name_of, name_under, key_under, link_at, leaf_of, seen_link, seen_links, seen_node, pair_at, pair_in, seen_table}

@@ -6,8 +6,8 @@ use Rattle.spec_map.specs.Map.{lookup}
 use Rattle.spec_map.proofs.MapLaws.{lookup-put_same, lookup-without_same}
 use Rattle.node_base.specs.Form.{Fits}
 use Rattle.node_base.specs.declared.base_node.NodeType.{NodeType}
-use Rattle.node_table.specs.TableNode.{TableNode}
-use Rattle.node_table.specs.declared.child.Child.TheVariants as children
+use Rattle.spec_node.specs.TableNode.{TableNode}
+use Rattle.spec_node.specs.declared.child.Child.TheVariants as children
 use Rattle.tree_links.specs.LeafCalls.{HasLeafAt, HasRoomFor, SetsPayload, HasNothing, IsFullFor, TakesPayload}
 use Rattle.tree_links.specs.LinkNode.{LinkNode, with_link, without_link}
 use Rattle.tree_links.specs.LosesNode.{IsEmptyAt, LosesNode}

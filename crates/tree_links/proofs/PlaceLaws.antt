@@ -2,9 +2,9 @@
 use Rattle.std.proofs.Common.{◌≡◌, ℕ, ◌+◌, List, ◌∷◌, Option, Some, None, ap, sym, ◌∙◌}
 use Rattle.std.specs.Option.{option_map}
 use Rattle.spec_map.specs.Map.{lookup, put, without, between}
-use Rattle.node_table.specs.TableNode.{TableNodeOf}
-use Rattle.node_table.specs.declared.child.Child.{Child as ChildOf}
-use Rattle.node_table.specs.declared.child.Child.TheVariants as children
+use Rattle.spec_node.specs.TableNode.{TableNodeOf}
+use Rattle.spec_node.specs.declared.child.Child.{Child as ChildOf}
+use Rattle.spec_node.specs.declared.child.Child.TheVariants as children
 use Rattle.node_table.specs.inner.Kinds.{mapped}
 use Rattle.node_table.proofs.KindLaws.{put-mapped, without-mapped, between-mapped, lookup-mapped_none, lookup-mapped_some}
 use Rattle.tree_links.specs.LinkNode.{with_link, without_link}

@@ -1,7 +1,7 @@
 -- What a node has last below a byte, as links.
 use Rattle.std.proofs.Common.{◌≡◌, ℕ, List, [], ◌∷◌, Some, None, option_map, refl, ap, sym, ◌∙◌}
 use Rattle.spec_map.specs.Near.{last_of, below_of}
-use Rattle.node_table.specs.declared.child.Child.{Child as ChildOf}
+use Rattle.spec_node.specs.declared.child.Child.{Child as ChildOf}
 use Rattle.node_table.specs.inner.Kinds.{mapped}
 use Rattle.node_table.proofs.KindLaws.{between-mapped}
 use Rattle.tree_links.specs.Places.{as_link, as_links}

@@ -2,10 +2,10 @@
 use Rattle.std.proofs.Common.{◌≡◌, ◌≢◌, ℕ, zero, suc, ◌+◌, ◌-◌, ◌<◌, ◌≤◌, List, [], ◌∷◌, ◌++◌, length, map, take, drop, set, get_or, IsSome, Some, None, refl, ap, sym, subst, ◌∙◌, arith}
 use Rattle.std.proofs.lemmas.List.{get_or-take, get_or-set_same, length-drop, length-map, map-set, take-append-drop, take-take, take_all}
 use Rattle.spec_map.specs.Map.{lookup}
-use Rattle.node_table.specs.Key.{AreBytes, Begins, IsFirstDifference, next_byte}
+use Rattle.spec_node.specs.Key.{AreBytes, Begins, IsFirstDifference, next_byte}
 use Rattle.node_table.specs.Table.{NodeTable, node_at, nodes_at, IsTree}
-use Rattle.node_table.specs.TableNode.{TableNode}
-use Rattle.node_table.specs.declared.child.Child.TheVariants as children
+use Rattle.spec_node.specs.TableNode.{TableNode}
+use Rattle.spec_node.specs.declared.child.Child.TheVariants as children
 use Rattle.node_table.proofs.BeginLaws.{begins_by, taken}
 use Rattle.node_table.proofs.DownLaws.{Begins-trans}
 use Rattle.node_table.proofs.KeyLaws.{goes_on}

@@ -6,9 +6,9 @@ use Rattle.std.proofs.lemmas.List.{get_or-append-add, get_or_append_left}
 use Rattle.std.specs.Option.{option_map}
 use Rattle.spec_map.specs.Map.{lookup, put, without}
 use Rattle.spec_map.proofs.MapLaws.{lookup-put_other, lookup-without_other}
-use Rattle.node_table.specs.TableNode.{TableNode, Child}
+use Rattle.spec_node.specs.TableNode.{TableNode, Child}
 use Rattle.node_table.specs.Table.{NodeTable, node_at}
-use Rattle.node_table.specs.declared.child.Child.TheVariants as children
+use Rattle.spec_node.specs.declared.child.Child.TheVariants as children
 use Rattle.tree_links.specs.LinkNode.{LinkNode, with_link, without_link}
 use Rattle.tree_links.specs.SeenTable.{LinkTable, links_of, bytes, width, name_of, name_under, key_under, link_at, leaf_of, seen_link, seen_links, seen_node, pair_at, pair_in, pairs_from, seen_from, seen_table}
 use Rattle.tree_links.specs.declared.link.Link.{Link}

@@ -6,8 +6,8 @@ use Rattle.std.specs.Option.{option_map}
 use Rattle.spec_map.specs.Map.{put}
 use Rattle.spec_map.proofs.MapLaws.{lookup-put_same, lookup-put_other}
 use Rattle.node_base.specs.declared.base_node.NodeType.TheVariants.{N4}
-use Rattle.node_table.specs.Key.{Begins, IsFirstDifference}
-use Rattle.node_table.specs.TableNode.{TableNode}
+use Rattle.spec_node.specs.Key.{Begins, IsFirstDifference}
+use Rattle.spec_node.specs.TableNode.{TableNode}
 use Rattle.node_table.specs.Table.{node_at}
 use Rattle.node_table.proofs.BeginLaws.{begins_by}
 use Rattle.node_table.proofs.KeyLaws.{split_at}

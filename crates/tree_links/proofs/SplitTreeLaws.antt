@@ -4,10 +4,10 @@ use Rattle.std.proofs.lemmas.Bool.{le-ltb, lt-ltb, eq-eqb, ne_eqb, cases_order, 
 use Rattle.std.proofs.lemmas.List.{length-replicate, length-take}
 use Rattle.spec_map.specs.Map.{lookup, put}
 use Rattle.spec_map.proofs.MapLaws.{lookup-put_same, lookup-put_other}
-use Rattle.node_table.specs.Key.{AreBytes, Begins, next_byte}
-use Rattle.node_table.specs.TableNode.{TableNode}
+use Rattle.spec_node.specs.Key.{AreBytes, Begins, next_byte}
+use Rattle.spec_node.specs.TableNode.{TableNode}
 use Rattle.node_table.specs.Table.{IsSound, NodeTable, node_at, IsTree}
-use Rattle.node_table.specs.declared.child.Child.TheVariants.{Node}
+use Rattle.spec_node.specs.declared.child.Child.TheVariants.{Node}
 use Rattle.node_table.proofs.BeginLaws.{begins_append}
 use Rattle.node_table.proofs.DownLaws.{KeepsOthers, Begins-trans}
 use Rattle.node_table.proofs.KeyLaws.{AreBytes-append, Begins-at_difference_left}

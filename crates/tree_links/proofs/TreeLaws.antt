@@ -5,11 +5,11 @@ use Rattle.spec_map.specs.Map.{lookup, put, Rises}
 use Rattle.spec_map.proofs.MapLaws.{lookup-below}
 use Rattle.spec_map.proofs.ByteMapLaws.{length-put_some}
 use Rattle.spec_map.proofs.LocalLaws.{IsLocal}
-use Rattle.node_table.specs.Key.{AreBytes, key_number, Begins, next_byte}
+use Rattle.spec_node.specs.Key.{AreBytes, key_number, Begins, next_byte}
 use Rattle.node_table.specs.Shape.{Replaces}
-use Rattle.node_table.specs.TableNode.{TableNode, Child}
+use Rattle.spec_node.specs.TableNode.{TableNode, Child}
 use Rattle.node_table.specs.Table.{IsSound, NodeTable, node_at, node_info, pairs_under, pairs_of, pairs_at, nodes_under, nodes_of, nodes_at, IsChild, AreChildren, IsTree}
-use Rattle.node_table.specs.declared.child.Child.TheVariants.{Payload, Node}
+use Rattle.spec_node.specs.declared.child.Child.TheVariants.{Payload, Node}
 use Rattle.node_table.proofs.BeginLaws.{after, begins_append}
 use Rattle.node_table.proofs.DownLaws.{KeepsBelow, KeepsOthers, Same, kept_each, frame, Begins-trans, one_byte}
 use Rattle.node_table.proofs.EachLaws.{each, nodes_of-each}

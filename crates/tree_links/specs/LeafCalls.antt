@@ -3,9 +3,9 @@ use Rattle.std.specs.Prelude.{◌≡◌, ◌≢◌, ℕ, ◌+◌, length, Option
 use Rattle.std.specs.Option.{option_map}
 use Rattle.spec_map.specs.Map.{lookup, put, without}
 use Rattle.node_base.specs.Form.{Fits}
-use Rattle.node_table.specs.TableNode.{TableNode}
+use Rattle.spec_node.specs.TableNode.{TableNode}
 use Rattle.node_table.specs.Table.{NodeTable, node_at}
-use Rattle.node_table.specs.declared.child.Child.TheVariants.{Payload}
+use Rattle.spec_node.specs.declared.child.Child.TheVariants.{Payload}
 use Rattle.tree_path.specs.inner.Descent.{IsOfOneKind}
 
 module _ {P : Type 0} where

@@ -2,7 +2,7 @@
 use Rattle.std.specs.Prelude.{◌≡◌, ℕ, ◌<◌, List, length, Option, Some, None}
 use Rattle.spec_map.specs.Map.{lookup, put, without}
 use Rattle.node_base.specs.declared.base_node.NodeType.{NodeType}
-use Rattle.node_table.specs.Key.{Begins, next_byte}
+use Rattle.spec_node.specs.Key.{Begins, next_byte}
 use Rattle.tree_links.specs.declared.link.Link.{Link}
 use Rattle.tree_links.specs.declared.link.Link.TheVariants.{Payload, Slot, Pair}
 use Rattle.tree_links.specs.declared.link.LinkRef.{LinkRef}

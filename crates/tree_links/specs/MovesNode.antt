@@ -1,9 +1,9 @@
 -- A node goes from one place of a table into another, and nothing else changes.
 use Rattle.std.specs.Prelude.{◌≡◌, ◌≢◌, ℕ, Some}
 use Rattle.spec_map.specs.Map.{lookup, put}
-use Rattle.node_table.specs.TableNode.{TableNode}
+use Rattle.spec_node.specs.TableNode.{TableNode}
 use Rattle.node_table.specs.Table.{NodeTable, node_at}
-use Rattle.node_table.specs.declared.child.Child.TheVariants.{Node}
+use Rattle.spec_node.specs.declared.child.Child.TheVariants.{Node}
 
 -- Under this byte of the node at `parent` there was the node at i. Now it is at j. What is at i then is open, and so is
 -- what is where there was no node.

@@ -1,7 +1,7 @@
 -- A node goes into its next form, or into its smaller one, and nothing else changes.
 use Rattle.std.specs.Prelude.{◌≡◌, ◌≢◌, ℕ, ◌+◌, length, Some}
 use Rattle.node_base.specs.Form.{Fits, next_form, smaller_form}
-use Rattle.node_table.specs.TableNode.{TableNode}
+use Rattle.spec_node.specs.TableNode.{TableNode}
 use Rattle.node_table.specs.Table.{NodeTable, node_at}
 
 module _ {P : Type 0} where

@@ -2,10 +2,10 @@
 use Rattle.std.specs.Prelude.{◌≡◌, ◌≢◌, ℕ, ◌+◌, ◌<◌, ◌++◌, List, [], ◌∷◌, length, Some, None}
 use Rattle.spec_map.specs.Map.{lookup, put, without}
 use Rattle.node_base.specs.Form.{Fits}
-use Rattle.node_table.specs.Key.{Begins}
-use Rattle.node_table.specs.TableNode.{TableNode}
+use Rattle.spec_node.specs.Key.{Begins}
+use Rattle.spec_node.specs.TableNode.{TableNode}
 use Rattle.node_table.specs.Table.{NodeTable, node_at}
-use Rattle.node_table.specs.declared.child.Child.TheVariants.{Node}
+use Rattle.spec_node.specs.declared.child.Child.TheVariants.{Node}
 use Rattle.tree_links.specs.SeenTable.{leaf_of}
 
 module _ {P : Type 0} where

@@ -1,8 +1,8 @@
 -- A node of a table, where an inner node has a slot or a pair in the place of a child, as what a table of links has.
 use Rattle.std.specs.Prelude.{ℕ, List}
-use Rattle.node_table.specs.TableNode.{TableNodeOf}
-use Rattle.node_table.specs.declared.child.Child.{Child as ChildOf}
-use Rattle.node_table.specs.declared.child.Child.TheVariants as children
+use Rattle.spec_node.specs.TableNode.{TableNodeOf}
+use Rattle.spec_node.specs.declared.child.Child.{Child as ChildOf}
+use Rattle.spec_node.specs.declared.child.Child.TheVariants as children
 use Rattle.node_table.specs.inner.Kinds.{mapped}
 use Rattle.tree_links.specs.LinkNode.{LinkNode}
 use Rattle.tree_links.specs.declared.link.Link.{Link}

@@ -1,7 +1,7 @@
 -- A tree that is the same in another table.
 use Rattle.std.specs.Prelude.{◌≡◌, ℕ, List, length, Some}
-use Rattle.node_table.specs.Key.{AreBytes, Begins, next_byte}
-use Rattle.node_table.specs.TableNode.{TableNode}
+use Rattle.spec_node.specs.Key.{AreBytes, Begins, next_byte}
+use Rattle.spec_node.specs.TableNode.{TableNode}
 use Rattle.node_table.specs.Table.{NodeTable, node_at}
 use Rattle.tree_path.specs.inner.Descent.{LeadsTo}
 use Rattle.tree_path.specs.inner.Root.{HasTree, tree_pairs, tree_nodes}

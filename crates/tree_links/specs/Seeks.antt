@@ -1,6 +1,6 @@
 -- Where the descent of a key ends in a table of links, as an end in the table of nodes that is seen.
 use Rattle.std.specs.Prelude.{◌≡◌, ◌≢◌, ℕ, ◌+◌, List, take, slice_index}
-use Rattle.node_table.specs.Key.{Begins, IsFirstDifference, next_byte}
+use Rattle.spec_node.specs.Key.{Begins, IsFirstDifference, next_byte}
 use Rattle.node_table.specs.Table.{NodeTable}
 use Rattle.tree_path.specs.declared.descent.PathEnd.{PathEnd}
 use Rattle.tree_path.specs.declared.descent.Stop.TheVariants as seen

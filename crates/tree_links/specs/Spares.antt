@@ -3,7 +3,7 @@ use Rattle.std.specs.Prelude.{◌≡◌, ℕ, ◌<◌, length, Option, Some}
 use Rattle.std.specs.Global.{Vec}
 use Rattle.node_base.specs.declared.base_node.NodeType.TheVariants.{N48, N256}
 use Rattle.node_rows.specs.Spare.{IsSpareFor}
-use Rattle.node_table.specs.TableNode.{TableNode}
+use Rattle.spec_node.specs.TableNode.{TableNode}
 use Rattle.node_table.specs.Table.{NodeTable, node_at}
 
 module _ {P C : Type 0} where

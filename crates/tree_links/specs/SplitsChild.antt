@@ -2,10 +2,10 @@
 use Rattle.std.specs.Prelude.{◌≡◌, ◌≢◌, ℕ, List, [], ◌∷◌, take, Some, None, slice_index_or}
 use Rattle.spec_map.specs.Map.{lookup, put}
 use Rattle.node_base.specs.declared.base_node.NodeType.TheVariants.{N4}
-use Rattle.node_table.specs.Key.{IsFirstDifference}
-use Rattle.node_table.specs.TableNode.{TableNode}
+use Rattle.spec_node.specs.Key.{IsFirstDifference}
+use Rattle.spec_node.specs.TableNode.{TableNode}
 use Rattle.node_table.specs.Table.{NodeTable, node_at}
-use Rattle.node_table.specs.declared.child.Child.TheVariants.{Node}
+use Rattle.spec_node.specs.declared.child.Child.TheVariants.{Node}
 use Rattle.tree_links.specs.SeenTable.{leaf_of}
 
 module _ {P : Type 0} where

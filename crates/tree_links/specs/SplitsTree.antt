@@ -1,6 +1,6 @@
 -- A split that puts its new node into another place leaves the tree that a split in place leaves.
 use Rattle.std.specs.Prelude.{◌≡◌, ◌≢◌, ℕ, List, Some}
-use Rattle.node_table.specs.TableNode.{TableNode}
+use Rattle.spec_node.specs.TableNode.{TableNode}
 use Rattle.node_table.specs.Table.{NodeTable, node_at}
 use Rattle.tree_path.specs.inner.Root.{HasTree}
 use Rattle.tree_links.specs.SameTree.{SameTree}

@@ -3,7 +3,7 @@
 //! Tested in `test_owned` and `tools/dev/try-commands`.
 
 ghost use Rattle.std.specs.Prelude.{◌≡◌, ◌++◌, [], ◌∷◌, drop, length, IsSome, Some};
-ghost use Rattle.node_table.specs.Key.{key_number};
+ghost use Rattle.spec_node.specs.Key.{key_number};
 ghost use Rattle.tree_links.specs.LinkNode.{LinkNode};
 ghost use Rattle.tree_links.specs.SeenTable.{key_under, links_of, link_at};
 

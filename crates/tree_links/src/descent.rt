@@ -4,7 +4,7 @@
 
 ghost use Rattle.std.specs.Prelude.{◌≡◌, ◌+◌, ◌≤◌, drop, length, map, option_copied, IsSome, IsTrue, Some, false};
 ghost use Rattle.std.specs.Int.{w64, to_be_bytes};
-ghost use Rattle.node_table.specs.Key.{Begins, IsFirstDifference};
+ghost use Rattle.spec_node.specs.Key.{Begins, IsFirstDifference};
 ghost use Rattle.tree_path.specs.Path.{on_path};
 ghost use Rattle.tree_path.specs.inner.Descent.{IsTrail, SeeksTo};
 ghost use Rattle.tree_path.specs.inner.Root.{HasTree, tree_nodes, tree_payload};

@@ -19,8 +19,8 @@ use crate::link::{Link, LinkMeeting, LinkRef};
 use crate::place::Place;
 use node_base::base_node::BaseNode;
 use node_rows::spare::Spare;
-use node_table::child::ChildIter;
 use spec_map::error::OOMError;
+use spec_node::child::ChildIter;
 use std::alloc::Global;
 
 /// A node whose children may be pairs. Below seven bytes it is a leaf, whose children are payloads. Below fewer it is

@@ -6,7 +6,7 @@ ghost use Rattle.std.specs.Prelude.{◌≡◌, ◌+◌, ◌<◌, length, IfOk, I
 ghost use Rattle.spec_map.specs.Map.{lookup};
 ghost use Rattle.node_base.specs.Form.{Fits};
 ghost use Rattle.node_base.specs.declared.base_node.NodeType.TheVariants.{N48};
-ghost use Rattle.node_table.specs.TableNode.{looked_at_ref};
+ghost use Rattle.spec_node.specs.TableNode.{looked_at_ref};
 ghost use Rattle.node_rows.specs.Spare.{IsSpareFor};
 ghost use Rattle.tree_links.specs.LinkNode.{MayLink, looked_at, with_link};
 ghost use Rattle.tree_links.specs.Places.{as_link, as_linked};
@@ -16,8 +16,8 @@ use crate::linked_node::LinkedNode;
 use node_base::base_node::BaseNode;
 use node_rows::row_node::RowNode;
 use node_rows::spare::Spare;
-use node_table::child::{Child, ChildIter, ChildRef, Meeting};
 use spec_map::error::OOMError;
+use spec_node::child::{Child, ChildIter, ChildRef, Meeting};
 use std::alloc::Global;
 
 /// What an inner node has in the place of a child: the slot of the node below, or the one pair of the leaf below, by

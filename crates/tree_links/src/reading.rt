@@ -5,7 +5,7 @@
 ghost use Rattle.std.specs.Prelude.{◌≡◌, ◌+◌, ◌≤◌, ◌↔◌, length, IsSome, IsTrue, Some, false};
 ghost use Rattle.node_base.specs.Form.{Fits, few_in};
 ghost use Rattle.node_table.specs.Table.{node_at};
-ghost use Rattle.node_table.specs.TableNode.{TableNode};
+ghost use Rattle.spec_node.specs.TableNode.{TableNode};
 ghost use Rattle.tree_links.specs.Places.{as_linked};
 ghost use Rattle.tree_links.specs.SeenTable.{name_of, seen_node};
 

@@ -3,14 +3,14 @@ use Rattle.std.proofs.Common.{Bor, IsSome, ◌≡◌, ℕ, zero, suc, ◌+◌, �
 use Rattle.std.proofs.lemmas.Bool.{cases_eq}
 use Rattle.node_table.proofs.BeginLaws.{after, begins_append}
 use Rattle.spec_map.specs.Map.{lookup}
-use Rattle.node_table.specs.Key.{AreBytes, key_number, Begins}
+use Rattle.spec_node.specs.Key.{AreBytes, key_number, Begins}
 use Rattle.node_table.proofs.KeyLaws.{goes_on}
-use Rattle.node_table.specs.TableNode.{TableNode, Child, MayHave}
+use Rattle.spec_node.specs.TableNode.{TableNode, Child, MayHave}
 use Rattle.node_table.specs.Table.{NodeTable, node_at, pairs_at, IsChild, IsTree}
-use Rattle.node_table.specs.Key.{next_byte}
+use Rattle.spec_node.specs.Key.{next_byte}
 use Rattle.tree_path.specs.inner.Descent.{PathTo, LeadsTo, FindsEnd, Halts, IsOfOneKind, SeeksTo, EndsAt, End, Differs, Absent, Present, EndPlace}
 use Rattle.tree_path.specs.inner.Root.{depth}
-use Rattle.node_table.specs.declared.child.Child.TheVariants.{Payload, Node}
+use Rattle.spec_node.specs.declared.child.Child.TheVariants.{Payload, Node}
 use Rattle.tree_path.specs.declared.descent.Stop.{Stop}
 use Rattle.tree_path.specs.declared.descent.Stop.TheVariants as stops
 use Rattle.tree_path.specs.declared.descent.PathEnd.{PathEnd}

@@ -2,19 +2,19 @@
 use Rattle.std.proofs.Common.{◌≡◌, ◌≢◌, ℕ, zero, suc, ◌+◌, ◌≤◌, false, List, [], ◌∷◌, ◌++◌, length, Option, Some, None, refl, ap, sym, subst, ◌∙◌, arith, inl, inr, append_assoc}
 use Rattle.std.proofs.lemmas.Bool.{eq-eqb, ne_eqb, cases_eq, cases_Bool}
 use Rattle.spec_map.specs.Map.{lookup, Rises}
-use Rattle.node_table.specs.Key.{Begins, AreBytes, IsFirstDifference}
+use Rattle.spec_node.specs.Key.{Begins, AreBytes, IsFirstDifference}
 use Rattle.node_table.specs.Table.{NodeTable, NodeInfo, nodes_under, nodes_of, nodes_at, IsChild, AreChildren, IsTree}
-use Rattle.node_table.specs.TableNode.{Child}
-use Rattle.node_table.specs.declared.child.Child.TheVariants.{Payload, Node}
+use Rattle.spec_node.specs.TableNode.{Child}
+use Rattle.spec_node.specs.declared.child.Child.TheVariants.{Payload, Node}
 use Rattle.spec_map.proofs.MapLaws.{lookup-below}
 use Rattle.node_table.proofs.KeyLaws.{goes_on, length-common}
 use Rattle.node_table.proofs.DownLaws.{Begins-trans}
 use Rattle.node_table.specs.Shape.{AllBegin}
 use Rattle.node_table.proofs.NodesLaws.{below, nodes_begin, all_below}
-use Rattle.node_table.specs.Key.{begins}
+use Rattle.spec_node.specs.Key.{begins}
 use Rattle.node_table.proofs.BeginLaws.{after, begins_itself, begins_other, begins_longer}
 use Rattle.tree_path.specs.Path.{on_path}
-use Rattle.node_table.specs.Key.{next_byte}
+use Rattle.spec_node.specs.Key.{next_byte}
 use Rattle.tree_path.specs.inner.Descent.{PathTo, FindsEnd, EndsAt, End, Differs, Absent, Present, EndPlace}
 use Rattle.tree_path.specs.inner.Root.{depth}
 use Rattle.tree_path.proofs.PathEndLaws.{ends_in, leads_short}

@@ -5,10 +5,10 @@ use Rattle.std.proofs.lemmas.List.Elements.{filter-append}
 use Rattle.std.proofs.lemmas.Nat.{div-mul-add}
 use Rattle.spec_map.specs.Map.{Pairs, lookup, between, Rises}
 use Rattle.spec_map.specs.Refusal.{leaf_pairs}
-use Rattle.node_table.specs.Key.{low, high, least, room, key_number, AreBytes}
+use Rattle.spec_node.specs.Key.{low, high, least, room, key_number, AreBytes}
 use Rattle.node_table.specs.Table.{NodeTable, pairs_of, pairs_at, AreChildren, IsTree}
-use Rattle.node_table.specs.TableNode.{Child}
-use Rattle.node_table.specs.declared.child.Child.TheVariants.{Payload, Node}
+use Rattle.spec_node.specs.TableNode.{Child}
+use Rattle.spec_node.specs.declared.child.Child.TheVariants.{Payload, Node}
 use Rattle.spec_map.proofs.MapLaws.{lookup-below}
 use Rattle.spec_map.proofs.RangeLaws.{between-above}
 use Rattle.node_table.proofs.KeyLaws.{byte_order, room-positive}

@@ -1,6 +1,6 @@
 -- Which nodes a point call reads.
 use Rattle.std.specs.Prelude.{ℕ, ◌+◌, List, [], ◌∷◌, if◌then◌else◌}
-use Rattle.node_table.specs.Key.{begins}
+use Rattle.spec_node.specs.Key.{begins}
 use Rattle.node_table.specs.Table.{NodeInfo}
 
 -- how many of the nodes are on the key's path: those to which bytes lead that begin it

@@ -1,7 +1,7 @@
 -- The measure that each step down a tree decreases.
 use Rattle.std.proofs.Common.{ℕ, ◌-◌, length, Option, Some, None}
 use Rattle.node_table.specs.Table.{NodeTable, node_at}
-use Rattle.node_table.specs.TableNode.{TableNode}
+use Rattle.spec_node.specs.TableNode.{TableNode}
 
 module _ {P : Type 0} (s : NodeTable P) where
   abbrev pub bytes_after : Option (TableNode P) → ℕ

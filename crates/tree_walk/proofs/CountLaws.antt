@@ -6,7 +6,7 @@ use Rattle.node_base.specs.declared.base_node.NodeType.TheVariants.{N4}
 use Rattle.node_stats.specs.Stats.{visit}
 use Rattle.node_stats.specs.declared.levels.LevelStats.{LevelStats}
 use Rattle.node_table.specs.Table.{NodeTable, node_at, IsSubtree}
-use Rattle.node_table.specs.declared.child.Child.TheVariants.{Node}
+use Rattle.spec_node.specs.declared.child.Child.TheVariants.{Node}
 use Rattle.tree_path.specs.inner.Root.{depth}
 use Rattle.tree_links.specs.LinkNode.{LinkNode}
 use Rattle.tree_links.specs.SeenTable.{name_of, name_under, key_under, leaf_of, seen_node, pair_in}

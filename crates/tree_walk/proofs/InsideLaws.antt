@@ -4,8 +4,8 @@ use Rattle.std.proofs.lemmas.List.Elements.{filter-append}
 use Rattle.std.proofs.lemmas.Bool.{lt-ltb, le-ltb, lt-leb, le-leb, eq-eqb, ne_eqb, cases_lt, cases_eq}
 use Rattle.spec_map.specs.Map.{lookup, between, Rises}
 use Rattle.spec_map.proofs.RangeLaws.{between-all, between-above, between-split}
-use Rattle.node_table.specs.Key.{low, high, key_number}
-use Rattle.node_table.specs.TableNode.{Child}
+use Rattle.spec_node.specs.Key.{low, high, key_number}
+use Rattle.spec_node.specs.TableNode.{Child}
 use Rattle.node_table.specs.Table.{NodeTable, node_at, pairs_of, pairs_at, AreChildren, IsTree, IsSubtree}
 use Rattle.node_table.proofs.TableLaws.{under, all_rise, tree_rises}
 use Rattle.tree_links.specs.LinkNode.{LinkNode}

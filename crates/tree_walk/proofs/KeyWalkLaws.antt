@@ -1,7 +1,7 @@
 -- The keys below a node, where the walk over its links ends.
 use Rattle.std.proofs.Common.{◌≡◌, ℕ, suc, List, [], ◌++◌, ap, sym, ◌∙◌, append-nil}
 use Rattle.spec_map.specs.Map.{between}
-use Rattle.node_table.specs.TableNode.{TableNode}
+use Rattle.spec_node.specs.TableNode.{TableNode}
 use Rattle.node_table.specs.Table.{NodeTable, pairs_at, pairs_of}
 use Rattle.tree_walk.proofs.WalkLaws.{keys_of, KeysLeft}
 

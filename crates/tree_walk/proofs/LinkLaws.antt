@@ -6,10 +6,10 @@ use Rattle.spec_map.specs.Near.{last_of, below_of}
 use Rattle.spec_map.proofs.MapLaws.{lookup-between_inside}
 use Rattle.spec_map.proofs.RangeLaws.{between-next, between-within}
 use Rattle.spec_map.proofs.NearLaws.{greatest_between, stored_between}
-use Rattle.node_table.specs.Key.{key_number}
+use Rattle.spec_node.specs.Key.{key_number}
 use Rattle.node_table.specs.Table.{NodeTable, node_at, pairs_at, IsSubtree}
 use Rattle.node_table.specs.inner.Kinds.{mapped}
-use Rattle.node_table.specs.declared.child.Child.TheVariants as children
+use Rattle.spec_node.specs.declared.child.Child.TheVariants as children
 use Rattle.tree_links.specs.LinkNode.{LinkNode}
 use Rattle.tree_links.specs.Places.{as_links}
 use Rattle.tree_links.specs.declared.place.Place.{Place}

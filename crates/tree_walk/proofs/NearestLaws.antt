@@ -9,10 +9,10 @@ use Rattle.spec_map.specs.Near.{first_of, last_of, below_of, floor_of, ceiling_o
 use Rattle.spec_map.proofs.MapLaws.{lookup-below}
 use Rattle.spec_map.proofs.RangeLaws.{between-above, between-split}
 use Rattle.spec_map.proofs.NearLaws.{no_first, no_last, greatest_between, stored_between, below_split}
-use Rattle.node_table.specs.Key.{low}
-use Rattle.node_table.specs.TableNode.{TableNode, Child}
+use Rattle.spec_node.specs.Key.{low}
+use Rattle.spec_node.specs.TableNode.{TableNode, Child}
 use Rattle.node_table.specs.Table.{NodeTable, node_at, pairs_under, pairs_of, pairs_at, IsTree, IsSubtree}
-use Rattle.node_table.specs.declared.child.Child.TheVariants.{Payload, Node}
+use Rattle.spec_node.specs.declared.child.Child.TheVariants.{Payload, Node}
 use Rattle.tree_walk.specs.Scan.{from_key}
 use Rattle.tree_walk.specs.inner.Scan.{IsWindow}
 use Rattle.tree_walk.specs.declared.window.Window.{Window}

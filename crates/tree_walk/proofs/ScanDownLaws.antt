@@ -6,9 +6,9 @@ use Rattle.spec_map.specs.Map.{Pairs, lookup, between, Rises}
 use Rattle.spec_map.specs.Near.{below_of}
 use Rattle.spec_map.proofs.RangeLaws.{between-split}
 use Rattle.spec_map.proofs.NearLaws.{no_last, none_between, none-between, absent_between, stored_between, greatest_between}
-use Rattle.node_table.specs.TableNode.{TableNode, Child}
+use Rattle.spec_node.specs.TableNode.{TableNode, Child}
 use Rattle.node_table.specs.Table.{NodeTable, node_at, pairs_of, pairs_at, IsChild, IsTree, IsSubtree}
-use Rattle.node_table.specs.declared.child.Child.TheVariants.{Payload, Node}
+use Rattle.spec_node.specs.declared.child.Child.TheVariants.{Payload, Node}
 use Rattle.node_table.specs.inner.Kinds.{mapped}
 use Rattle.tree_walk.specs.inner.Scan.{IsWindow, HasSubtree, FillsBuffer, AddsEntries, entries_down, entries_under}
 use Rattle.tree_walk.specs.declared.window.Window.{Window}

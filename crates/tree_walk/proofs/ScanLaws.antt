@@ -5,10 +5,10 @@ use Rattle.std.proofs.lemmas.List.{map-append, length-map}
 use Rattle.std.proofs.lemmas.List.Elements.{filter-append}
 use Rattle.std.proofs.lemmas.Bool.{lt-ltb, le-ltb, le-leb, lt-leb, cases_lt}
 use Rattle.spec_map.specs.Map.{Pairs, between, Rises}
-use Rattle.node_table.specs.Key.{low, high, AreBytes}
-use Rattle.node_table.specs.TableNode.{TableNode, Child}
+use Rattle.spec_node.specs.Key.{low, high, AreBytes}
+use Rattle.spec_node.specs.TableNode.{TableNode, Child}
 use Rattle.node_table.specs.Table.{NodeTable, node_at, pairs_of, pairs_at, IsChild, AreChildren, IsTree, IsSubtree, IsSound}
-use Rattle.node_table.specs.declared.child.Child.TheVariants.{Payload, Node}
+use Rattle.spec_node.specs.declared.child.Child.TheVariants.{Payload, Node}
 use Rattle.spec_map.proofs.RangeLaws.{between-all, between-above, between-rises, between-within}
 use Rattle.node_table.proofs.BeginLaws.{after}
 use Rattle.tree_path.proofs.ShareLaws.{between-below}

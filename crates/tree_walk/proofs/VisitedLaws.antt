@@ -9,10 +9,10 @@ use Rattle.node_table.specs.Shape.{AreUnder}
 use Rattle.node_stats.specs.Stats.{Visit, visit, IsTally}
 use Rattle.node_stats.specs.StatsText.{all_nodes, all_entries}
 use Rattle.node_table.specs.Table.{NodeTable, NodeInfo, node_at, node_info, nodes_under, nodes_of, nodes_at, IsChild, AreChildren, IsTree, IsSubtree}
-use Rattle.node_table.specs.TableNode.{TableNode, Child}
+use Rattle.spec_node.specs.TableNode.{TableNode, Child}
 use Rattle.node_stats.specs.Visits.{nodes_above, visits_below}
 use Rattle.node_base.specs.declared.base_node.NodeType.{NodeType}
-use Rattle.node_table.specs.declared.child.Child.TheVariants.{Node}
+use Rattle.spec_node.specs.declared.child.Child.TheVariants.{Node}
 use Rattle.node_stats.specs.declared.levels.LevelStats.{LevelStats}
 use Rattle.spec_map.proofs.MapLaws.{Rises-between}
 use Rattle.spec_map.proofs.RangeLaws.{between-all}

@@ -5,7 +5,7 @@ use Rattle.std.proofs.lemmas.Nat.{shr_split, pow_pos, pow-add}
 use Rattle.std.proofs.Math.Nat.{mod-lt}
 use Rattle.std.proofs.Common.{w64}
 use Rattle.std.specs.Int.{from_be_bytes}
-use Rattle.node_table.specs.Key.{span, least, room, low, high, AreBytes}
+use Rattle.spec_node.specs.Key.{span, least, room, low, high, AreBytes}
 use Rattle.node_table.proofs.KeyLaws.{between_spans, room-positive, least-bound, key_number-be_bytes, AreBytes-append}
 use Rattle.tree_walk.specs.inner.Scan.{IsWindow}
 use Rattle.tree_walk.specs.declared.window.Window.{Window}

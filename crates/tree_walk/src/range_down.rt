@@ -21,7 +21,7 @@ use crate::range_scan::{AHEAD, RangeEntry, room_after, write_all};
 use crate::window::window_of;
 use node_base::base_node::NodeType;
 use node_base::iter::NodeIter;
-use node_table::child::ChildIter;
+use spec_node::child::ChildIter;
 use tree_links::bytes::pair_number;
 use tree_links::link::LinkRef;
 use tree_links::linked_node::LinkedNode;

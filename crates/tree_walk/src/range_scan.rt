@@ -23,7 +23,7 @@ use crate::payloads::Payloads;
 use crate::places::{next_4, next_16, next_48, next_256};
 use crate::window::window_of;
 use node_base::iter::NodeIter;
-use node_table::child::ChildIter;
+use spec_node::child::ChildIter;
 use tree_links::bytes::pair_number;
 use tree_links::link::LinkRef;
 use tree_links::linked_node::LinkedNode;

@@ -618,6 +618,28 @@ impl<K: Word, V: Word> OrdLiveGuard<K, V> {
         self.guard.pop_first().map(pair)
     }
 
+    /// Removes the pair with the least key, if that key is at most `key`, and returns the pair, or `None` if the call found
+    /// no such pair. Each pair goes to one caller. The pair was found by [`first`](OrdLiveGuard::first): no lesser key was
+    /// present throughout the call. A lesser key that another call inserts meanwhile stays. With `None` no key that is at
+    /// most `key` was present throughout the call. A pop is never out of memory. While writers lock or change nodes on the
+    /// way, the call yields and tries again. If another call removes or changes the found pair first, the call searches
+    /// again.
+    ///
+    /// ```
+    /// use proved_congee::keyed::OrdLiveMap;
+    ///
+    /// # fn main() -> Result<(), Box<dyn std::error::Error>> {
+    /// let guard = OrdLiveMap::<i32, char>::new()?.pin()?;
+    /// guard.extend([(-5, 'a'), (7, 'b'), (9, 'c')])?;
+    /// assert_eq!(guard.pop_first_to(6), Some((-5, 'a')));
+    /// assert_eq!(guard.pop_first_to(6), None);
+    /// # Ok(())
+    /// # }
+    /// ```
+    pub fn pop_first_to(&self, key: K) -> Option<(K, V)> {
+        self.guard.pop_first_to(key.into_u64()).map(pair)
+    }
+
     /// Removes the pair with the greatest key, and returns the pair, or `None` if the call found no pair. Each pair goes to
     /// one caller. The pair was found by [`last`](OrdLiveGuard::last): no greater key was present throughout the call. A
     /// greater key that another call inserts meanwhile stays. With `None` no key was present throughout the call. A pop is
@@ -638,6 +660,28 @@ impl<K: Word, V: Word> OrdLiveGuard<K, V> {
     #[doc(alias = "pop_max")]
     pub fn pop_last(&self) -> Option<(K, V)> {
         self.guard.pop_last().map(pair)
+    }
+
+    /// Removes the pair with the greatest key, if that key is at least `key`, and returns the pair, or `None` if the call
+    /// found no such pair. Each pair goes to one caller. The pair was found by [`last`](OrdLiveGuard::last): no greater key
+    /// was present throughout the call. A greater key that another call inserts meanwhile stays. With `None` no key that is
+    /// at least `key` was present throughout the call. A pop is never out of memory. While writers lock or change nodes on
+    /// the way, the call yields and tries again. If another call removes or changes the found pair first, the call searches
+    /// again.
+    ///
+    /// ```
+    /// use proved_congee::keyed::OrdLiveMap;
+    ///
+    /// # fn main() -> Result<(), Box<dyn std::error::Error>> {
+    /// let guard = OrdLiveMap::<i32, char>::new()?.pin()?;
+    /// guard.extend([(-5, 'a'), (7, 'b'), (9, 'c')])?;
+    /// assert_eq!(guard.pop_last_from(8), Some((9, 'c')));
+    /// assert_eq!(guard.pop_last_from(8), None);
+    /// # Ok(())
+    /// # }
+    /// ```
+    pub fn pop_last_from(&self, key: K) -> Option<(K, V)> {
+        self.guard.pop_last_from(key.into_u64()).map(pair)
     }
 
     /// Removes the pairs whose keys are within the bounds, one by one, keys ascending, each at a moment of its own. Returns

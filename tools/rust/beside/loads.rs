@@ -199,7 +199,7 @@ impl<M: Shared> Run<'_, M> {
         }
     }
 
-    /// The same calls, of which one in so many overwrites.
+    /// Times one call for each of these keys, of which one in so many overwrites and the others read.
     fn mixed(&self, load: &'static str, keys: &[u64], one_in: usize, round: u64) -> Timed {
         self.timed(load, (keys, M::RETURNS_BEFORE), |it, at, key| {
             if at % one_in == 0 {

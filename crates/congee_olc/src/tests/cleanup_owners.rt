@@ -113,7 +113,7 @@ fn remove_right(machine: &mut Rationed<'_>, may: May<'_>) -> Result<bool, StartE
     )
 }
 
-// The same on a machine, and whether each value has its owners in the end.
+// Whether `remove_right` holds on a machine of 13 keys with so many shares, and each value has its owners in the end.
 fn ends_with(alloc: Global, shares: u64) -> Result<bool, Fail> {
     let left = Cell::new(u64::MAX);
     let mut machine = Machine::new(alloc, Budget::new(1 << 16))?;

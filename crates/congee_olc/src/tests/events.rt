@@ -3,7 +3,7 @@
 //! A letter denotes an event, a small one if a word isn't free or isn't the remembered one, an upgrade fails, or a node
 //! is refused: Start, Take, Read, Check, Upgrade, mAke, Write, Obsolete, unLock, Finish.
 
-use node_table::child::Child;
+use spec_node::child::Child;
 use spec_olc::trace::{Line, Trace};
 use spec_olc::types::{Env, Event, Kind, Op, Outcome, Report, Seen};
 use std::alloc::AllocError;

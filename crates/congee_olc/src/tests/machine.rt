@@ -5,9 +5,9 @@
 
 use crate::tests::events::{MANY, WHOLE};
 use node_table::allocator::{Budget, DefaultAllocator};
-use node_table::child::Child;
 use olc_machine::machine::Machine;
 use spec_map::error::OOMError;
+use spec_node::child::Child;
 use spec_olc::types::{Env, Kind, Op, Outcome, Reply, Seen, StartError};
 use std::alloc::Global;
 use std::sync::Arc;

@@ -114,7 +114,7 @@ impl Told {
         Ok(())
     }
 
-    // The same, and then again what the map lacks.
+    // So many insertions from a number on, one event of each in turn, and then again those that the map lacks.
     fn insert_all(
         &mut self,
         machine: &mut Numbers,
@@ -171,7 +171,7 @@ fn fresh(alloc: Global) -> Result<Numbers, OOMError> {
     Machine::new(alloc, DefaultAllocator {})
 }
 
-// The same on a fresh machine.
+// Whether so many insertions in so many rounds are right on a fresh machine, and leave the map's content.
 fn are_right_on_a_machine(alloc: Global, rounds: u64, width: u64) -> Result<bool, OOMError> {
     let mut machine = fresh(alloc)?;
     are_right(&mut machine, alloc, rounds, width)

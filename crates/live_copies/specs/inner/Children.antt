@@ -3,7 +3,7 @@ use Rattle.std.specs.Prelude.{◌≡◌, ℕ, ◌<◌, ◌≤◌, Option, Some, 
 use Rattle.live_nodes.specs.Seats.{SeatView}
 use Rattle.live_law.specs.Levels.{up, digit}
 use Rattle.live_law.specs.Views.{View}
-use Rattle.live_reads.specs.Ways.{Names}
+use Rattle.live_reads.specs.Paths.{Names}
 use Rattle.live_copies.specs.declared.children.Child.{Child}
 
 -- A child of a node of this height, whose keys begin like this one.

@@ -1,7 +1,7 @@
 -- What is known of an inner node's keys before it is locked, by the names of its children, which were noted byte by byte.
 use Rattle.std.specs.Prelude.{◌≡◌, ℕ, suc, ◌+◌, ◌*◌, ◌<◌, ◌≤◌, ◌^◌, List, length, slice_index}
 use Rattle.node_base.specs.declared.base_node.NodeType.{NodeType}
-use Rattle.node_table.specs.TableNode.{TableNode}
+use Rattle.spec_node.specs.TableNode.{TableNode}
 use Rattle.spec_map.specs.Map.{Pairs, Rises, lookup}
 use Rattle.live_layout.specs.Encodes.{Encodes}
 use Rattle.live_law.specs.Levels.{Spot}

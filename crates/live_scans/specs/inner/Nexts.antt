@@ -1,7 +1,7 @@
--- The way on from a key below a node.
+-- The path on from a key below a node.
 use Rattle.std.specs.Prelude.{◌≡◌, ◌≢◌, ◌⊎◌, ℕ, ◌+◌, ◌%◌, ◌<◌, ◌≤◌, true, List, [], Option, Some, None}
-use Rattle.node_table.specs.TableNode.{TableNode}
-use Rattle.node_table.specs.declared.child.Child.TheVariants.{Node}
+use Rattle.spec_node.specs.TableNode.{TableNode}
+use Rattle.spec_node.specs.declared.child.Child.TheVariants.{Node}
 use Rattle.word_book.specs.Book.{Book, Name}
 use Rattle.live_nodes.specs.Nodes.{Content}
 use Rattle.live_nodes.specs.Seats.{read, SeatView, IsIn, Agree}
@@ -12,7 +12,7 @@ use Rattle.live_layout.specs.Order.{HasNearest}
 use Rattle.live_law.specs.Levels.{up, digit, Shape, Spot, name_of, Covers, place_at}
 use Rattle.live_law.specs.Views.{View, Watch}
 use Rattle.live_law.specs.Tree.{IsOf}
-use Rattle.live_reads.specs.Ways.{Names, Sights, HasOpened, IsOpen}
+use Rattle.live_reads.specs.Paths.{Names, Sights, HasOpened, IsOpen}
 use Rattle.live_scans.specs.inner.Moments.{IsWithin, IsPassed, ReadsOn}
 use Rattle.live_scans.specs.declared.next.Turn.{Turn}
 use Rattle.live_scans.specs.declared.next.Turn.TheVariants.{Past, Goes}

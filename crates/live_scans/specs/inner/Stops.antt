@@ -1,23 +1,23 @@
--- Where a reader's way ends.
+-- Where a reader's path ends.
 use Rattle.std.specs.Prelude.{◌≡◌, ◌⊎◌, ℕ, ◌%◌, ◌≤◌, [], Option, Some, None}
 use Rattle.live_nodes.specs.Seats.{SeatView}
 use Rattle.live_law.specs.Views.{View}
-use Rattle.live_reads.specs.Ways.{Names}
+use Rattle.live_reads.specs.Paths.{Names}
 use Rattle.live_reads.specs.Roots.{Begins}
 use Rattle.live_scans.specs.inner.Moments.{IsPassed, ReadsOn}
-use Rattle.live_scans.specs.declared.seek.Stand.{Stand}
+use Rattle.live_scans.specs.declared.seek.Position.{Position}
 use Rattle.live_scans.specs.declared.seek.Reach.{Reach}
 use Rattle.live_scans.specs.declared.seek.Reach.TheVariants as reaches
 
 -- an inner node that the seat has met, and a key that begins like it
-abbrev pub IsStand : SeatView View → Stand → Type 0
-IsStand v s = (2 ≤ s.height) × (s.height ≤ 8) × Names v s.name s.key s.height
+abbrev pub IsPosition : SeatView View → Position → Type 0
+IsPosition v s = (2 ≤ s.height) × (s.height ≤ 8) × Names v s.name s.key s.height
 
 abbrev pub Reaches : ℕ → SeatView View → SeatView View → ℕ → Reach → Type 0
 Reaches caller v w key (reaches.Past last) = IsPassed caller v w key last
 Reaches caller v w key (reaches.Leaf name first) = (key ≤ first) × ((first % 256 ≡ 0) ⊎ (key ≡ first)) × Names w name first 1 × ReadsOn caller v w key first []
 
 -- A reader began, and is at the root. Or it has seen no more.
-abbrev pub Starts : ℕ → SeatView View → SeatView View → ℕ → Option Stand → Type 0
+abbrev pub Starts : ℕ → SeatView View → SeatView View → ℕ → Option Position → Type 0
 Starts caller v w key None = w.client.seen ≡ v.client.seen
-Starts caller v w key (Some s) = Begins caller v.client.seen w.client.seen × (s.key ≡ key) × (s.height ≡ 8) × IsStand w s
+Starts caller v w key (Some s) = Begins caller v.client.seen w.client.seen × (s.key ≡ key) × (s.height ≡ 8) × IsPosition w s

@@ -1,11 +1,11 @@
--- Where a reader's way ends, and what a step of it finds.
+-- Where a reader's path ends, and what a step of it finds.
 use Rattle.std.specs.Prelude.{ℕ, ◌+◌, ◌≤◌, [], ◌∷◌, Option, Some, None}
 use Rattle.live_nodes.specs.Seats.{SeatView}
 use Rattle.live_law.specs.Views.{View}
-use Rattle.live_reads.specs.Ways.{Names}
+use Rattle.live_reads.specs.Paths.{Names}
 use Rattle.live_scans.specs.inner.Downs.{ReadsDown, IsPassed}
-use Rattle.live_scans.specs.declared.floors.way.Stop.{Stop}
-use Rattle.live_scans.specs.declared.floors.way.Stop.TheVariants.{Leaf, Gap}
+use Rattle.live_scans.specs.declared.floors.path.Stop.{Stop}
+use Rattle.live_scans.specs.declared.floors.path.Stop.TheVariants.{Leaf, Gap}
 use Rattle.live_scans.specs.declared.floors.Step.{Step}
 use Rattle.live_scans.specs.declared.floors.Step.TheVariants.{Found, Passed}
 

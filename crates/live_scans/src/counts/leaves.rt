@@ -1,14 +1,14 @@
 //! Steps from leaf to leaf. Each has all pairs of a leaf, or passes keys that are absent.
 ghost use Rattle.std.specs.Prelude.{◌≡◌, ◌%◌, length, IfSome};
 ghost use Rattle.live_scans.specs.inner.Moments.{SeesMore};
-ghost use Rattle.live_reads.specs.Ways.{KnowsTrunk, Keeps};
-ghost use Rattle.live_scans.specs.inner.Stops.{IsStand};
+ghost use Rattle.live_reads.specs.Paths.{KnowsRootWord, Keeps};
+ghost use Rattle.live_scans.specs.inner.Stops.{IsPosition};
 ghost use Rattle.live_scans.specs.inner.LeafSteps.{IsStep};
 
-use crate::seek::{Reach, Stand, begin, seek_on};
+use crate::seek::{Position, Reach, begin, seek_on};
 use crate::steps::leaf_page;
 use live_layout::page::Part;
-use live_reads::way::{Nodes, Pass};
+use live_reads::path::{Nodes, Seat};
 use std::marker::Brand;
 
 // How often a step is tried before it is given up.
@@ -25,35 +25,35 @@ pub struct Step {
 #[derive(Clone, Copy, Debug, PartialEq, Eq)]
 pub struct Stepped {
     pub step: Step,
-    pub stand: Stand,
+    pub position: Position,
 }
 
 // One step from the first key of a leaf on: the pairs of a leaf are written into the buffer, or keys are passed that are absent.
 // `None` where a writer came in between.
 fn try_step(
     nodes: &Nodes,
-    stand: Option<Stand>,
+    position: Option<Position>,
     key: u64,
     buffer: &mut [(u64, u64)],
-    pass: &mut Pass,
+    seat: &mut Seat,
 ) -> Option<Stepped>
-    requires book { pass.old.book ≡ nodes.now }
-    requires trunk { KnowsTrunk pass.old.view }
-    requires stand { IfSome stand (IsStand pass.old.view) }
+    requires book { seat.old.book ≡ nodes.now }
+    requires root_word { KnowsRootWord seat.old.view }
+    requires position { IfSome position (IsPosition seat.old.view) }
     requires first { key % 256 ≡ 0 }
     requires room { length buffer.old ≡ 256 }
-    ensures told { (pass.new.book ≡ pass.old.book) × (pass.new.id ≡ pass.old.id)
-        × Keeps pass.old.view pass.new.view
-        × SeesMore pass.new.view.client.seen pass.old.id pass.old.view.client.seen
-        × IfSome result (λ s. IsStand pass.new.view s.stand
-        × IsStep pass.old.id pass.old.view pass.new.view key buffer.new s.step) }
+    ensures told { (seat.new.book ≡ seat.old.book) × (seat.new.id ≡ seat.old.id)
+        × Keeps seat.old.view seat.new.view
+        × SeesMore seat.new.view.client.seen seat.old.id seat.old.view.client.seen
+        × IfSome result (λ s. IsPosition seat.new.view s.position
+        × IsStep seat.old.id seat.old.view seat.new.view key buffer.new s.step) }
 {
-    let at = begin(nodes, stand, key, pass)?;
-    let sought = seek_on::<Brand>(nodes, at, pass)?;
+    let at = begin(nodes, position, key, seat)?;
+    let sought = seek_on::<Brand>(nodes, at, seat)?;
     match sought.reach {
         Reach::Past(last) => Some(Stepped {
             step: Step { count: 0, last },
-            stand: sought.stand,
+            position: sought.position,
         }),
         Reach::Leaf(name, first) => {
             let leaf = Part {
@@ -61,13 +61,13 @@ fn try_step(
                 first: 0,
                 last: 255,
             };
-            let filled = leaf_page::<Brand, (u64, u64)>(nodes, name, leaf, buffer, 0, pass)?;
+            let filled = leaf_page::<Brand, (u64, u64)>(nodes, name, leaf, buffer, 0, seat)?;
             Some(Stepped {
                 step: Step {
                     count: filled.count,
                     last: first + 255,
                 },
-                stand: sought.stand,
+                position: sought.position,
             })
         }
     }
@@ -77,25 +77,25 @@ fn try_step(
 /// the buffer, or keys are passed that are absent. `None` where too many writers came in between.
 pub fn step_on(
     nodes: &Nodes,
-    stand: Option<Stand>,
+    position: Option<Position>,
     key: u64,
     buffer: &mut [(u64, u64)],
-    pass: &mut Pass,
+    seat: &mut Seat,
 ) -> Option<Stepped>
-    requires book { pass.old.book ≡ nodes.now }
-    requires trunk { KnowsTrunk pass.old.view }
-    requires stand { IfSome stand (IsStand pass.old.view) }
+    requires book { seat.old.book ≡ nodes.now }
+    requires root_word { KnowsRootWord seat.old.view }
+    requires position { IfSome position (IsPosition seat.old.view) }
     requires first { key % 256 ≡ 0 }
     requires room { length buffer.old ≡ 256 }
-    ensures told { (pass.new.book ≡ pass.old.book) × (pass.new.id ≡ pass.old.id)
-        × Keeps pass.old.view pass.new.view
-        × SeesMore pass.new.view.client.seen pass.old.id pass.old.view.client.seen
-        × IfSome result (λ s. IsStand pass.new.view s.stand
-        × IsStep pass.old.id pass.old.view pass.new.view key buffer.new s.step) }
+    ensures told { (seat.new.book ≡ seat.old.book) × (seat.new.id ≡ seat.old.id)
+        × Keeps seat.old.view seat.new.view
+        × SeesMore seat.new.view.client.seen seat.old.id seat.old.view.client.seen
+        × IfSome result (λ s. IsPosition seat.new.view s.position
+        × IsStep seat.old.id seat.old.view seat.new.view key buffer.new s.step) }
 {
-    let mut at = stand;
+    let mut at = position;
     for _ in 0..TRIES {
-        if let Some(stepped) = try_step(nodes, at, key, buffer, pass) {
+        if let Some(stepped) = try_step(nodes, at, key, buffer, seat) {
             return Some(stepped);
         }
         at = None;

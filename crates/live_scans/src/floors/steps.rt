@@ -1,20 +1,20 @@
 //! The steps of a reader downwards, each at the check of one node.
 ghost use Rattle.std.specs.Prelude.{◌≡◌, ◌≢◌, ℕ, ◌+◌, ◌%◌, ◌<◌, ◌≤◌, ◌^◌, IfSome, IfNone, None, Some};
 ghost use Rattle.live_law.specs.Levels.{digit};
-ghost use Rattle.live_reads.specs.Ways.{Names, Leaves, Keeps};
+ghost use Rattle.live_reads.specs.Paths.{Names, Leaves, Keeps};
 ghost use Rattle.live_scans.specs.inner.Moments.{SeesMore, HasNone, IsBeside};
 ghost use Rattle.live_scans.specs.inner.Downs.{IsByteAfter, IsUpTo, IsPassed, Finds};
 
 use crate::keys::first_of;
-use crate::lesson::Whole;
+use crate::on_check::Whole;
 use crate::steps::leads_aside;
-use live_law::law::{Asks, Levels, Mine};
+use live_law::law::{Asks, MapLaw, MapView};
 use live_layout::form::form_below;
 use live_layout::nearest::nearest;
 use live_nodes::node;
-use live_nodes::rows::Row;
-use live_reads::sight::{Fork, enter};
-use live_reads::way::{Nodes, Opened, Pass, byte_at};
+use live_nodes::rows::SharedWords;
+use live_reads::path::{Nodes, Opened, Seat, byte_at};
+use live_reads::prefix_match::{Mismatch, enter};
 
 // The byte after the one that was found, or the first of all. `None` where that one is the last.
 fn byte_after(found: Option<(u8, u64)>, last: u8) -> Option<u8>
@@ -34,25 +34,25 @@ fn first_byte<A: Asks>(
     name: u64,
     height: usize,
     key: u64,
-    pass: &mut Pass,
+    seat: &mut Seat,
 ) -> Option<u8>
-    requires book { pass.old.book ≡ nodes.now }
-    requires asks { A.ask.caller ≡ pass.old.id }
-    requires named { Names pass.old.view name key height }
+    requires book { seat.old.book ≡ nodes.now }
+    requires asks { A.ask.caller ≡ seat.old.id }
+    requires named { Names seat.old.view name key height }
     requires height { (2 ≤ height) × (height ≤ 8) }
-    ensures told { (pass.new.book ≡ pass.old.book) × (pass.new.id ≡ pass.old.id)
-        × Keeps pass.old.view pass.new.view
-        × SeesMore pass.new.view.client.seen pass.old.id pass.old.view.client.seen
-        × IfSome result (λ b. HasNone pass.old.id pass.old.view pass.new.view
+    ensures told { (seat.new.book ≡ seat.old.book) × (seat.new.id ≡ seat.old.id)
+        × Keeps seat.old.view seat.new.view
+        × SeesMore seat.new.view.client.seen seat.old.id seat.old.view.client.seen
+        × IfSome result (λ b. HasNone seat.old.id seat.old.view seat.new.view
         (IsUpTo height key b)) }
 {
-    let here = enter(nodes, name, height, key, pass)?;
+    let here = enter(nodes, name, height, key, seat)?;
     let Opened { words, taken } = here;
     let form = form_below(name);
     let byte = byte_at(key, height);
-    let row = Row { words };
-    let found = nearest(&row, form, false, byte, pass);
-    if !node::check::<Mine, Levels, Whole<A>>(&words[0], taken, pass) {
+    let row = SharedWords { words };
+    let found = nearest(&row, form, false, byte, seat);
+    if !node::check::<MapView, MapLaw, Whole<A>>(&words[0], taken, seat) {
         return None;
     }
     byte_after(found, byte)
@@ -76,24 +76,24 @@ pub fn leaf_floor<A: Asks>(
     name: u64,
     base: u64,
     byte: u8,
-    pass: &mut Pass,
+    seat: &mut Seat,
 ) -> Option<Option<(u64, u64)>>
-    requires book { pass.old.book ≡ nodes.now }
-    requires asks { A.ask.caller ≡ pass.old.id }
-    requires named { Names pass.old.view name (base + byte) 1 }
+    requires book { seat.old.book ≡ nodes.now }
+    requires asks { A.ask.caller ≡ seat.old.id }
+    requires named { Names seat.old.view name (base + byte) 1 }
     requires base { (base + 255 < 2 ^ 64) × (base % 256 ≡ 0) }
-    ensures told { (pass.new.book ≡ pass.old.book) × (pass.new.id ≡ pass.old.id)
-        × Keeps pass.old.view pass.new.view
-        × SeesMore pass.new.view.client.seen pass.old.id pass.old.view.client.seen
-        × IfSome result (λ found. Finds pass.old.id pass.old.view pass.new.view
+    ensures told { (seat.new.book ≡ seat.old.book) × (seat.new.id ≡ seat.old.id)
+        × Keeps seat.old.view seat.new.view
+        × SeesMore seat.new.view.client.seen seat.old.id seat.old.view.client.seen
+        × IfSome result (λ found. Finds seat.old.id seat.old.view seat.new.view
         base (base + byte + 1) found) }
 {
-    let here = enter(nodes, name, 1, base + byte as u64, pass)?;
+    let here = enter(nodes, name, 1, base + byte as u64, seat)?;
     let Opened { words, taken } = here;
     let form = form_below(name);
-    let row = Row { words };
-    let found = nearest(&row, form, false, byte, pass);
-    if !node::check::<Mine, Levels, Whole<A>>(&words[0], taken, pass) {
+    let row = SharedWords { words };
+    let found = nearest(&row, form, false, byte, seat);
+    if !node::check::<MapView, MapLaw, Whole<A>>(&words[0], taken, seat) {
         return None;
     }
     Some(pair_at(base, found))
@@ -119,59 +119,59 @@ pub fn gap<A: Asks>(
     name: u64,
     height: usize,
     key: u64,
-    pass: &mut Pass,
+    seat: &mut Seat,
 ) -> Option<u64>
-    requires book { pass.old.book ≡ nodes.now }
-    requires asks { A.ask.caller ≡ pass.old.id }
-    requires named { Names pass.old.view name key height }
+    requires book { seat.old.book ≡ nodes.now }
+    requires asks { A.ask.caller ≡ seat.old.id }
+    requires named { Names seat.old.view name key height }
     requires height { (2 ≤ height) × (height ≤ 8) }
-    ensures told { (pass.new.book ≡ pass.old.book) × (pass.new.id ≡ pass.old.id)
-        × Keeps pass.old.view pass.new.view
-        × SeesMore pass.new.view.client.seen pass.old.id pass.old.view.client.seen
-        × IfSome result (λ first. IsPassed pass.old.id pass.old.view pass.new.view first key) }
+    ensures told { (seat.new.book ≡ seat.old.book) × (seat.new.id ≡ seat.old.id)
+        × Keeps seat.old.view seat.new.view
+        × SeesMore seat.new.view.client.seen seat.old.id seat.old.view.client.seen
+        × IfSome result (λ first. IsPassed seat.old.id seat.old.view seat.new.view first key) }
 {
-    let byte = first_byte::<A>(nodes, name, height, key, pass)?;
+    let byte = first_byte::<A>(nodes, name, height, key, seat)?;
     passed(key, first_of(key, height, byte))
 }
 
-// The first key after those of a node whose way the key leaves, or of the byte under which that node is.
-fn first_beside(key: u64, height: usize, fork: Fork) -> u64
-    requires at { (1 ≤ fork.at) × (fork.at < height) × (height ≤ 8) }
-    requires other { fork.byte ≢ digit fork.at key }
-    ensures { (k : ℕ) → result ≤ k → k ≤ key → IsBeside height key fork.at fork.byte k }
+// The first key after those of a node whose path the key leaves, or of the byte under which that node is.
+fn first_beside(key: u64, height: usize, mismatch: Mismatch) -> u64
+    requires at { (1 ≤ mismatch.at) × (mismatch.at < height) × (height ≤ 8) }
+    requires other { mismatch.byte ≢ digit mismatch.at key }
+    ensures { (k : ℕ) → result ≤ k → k ≤ key → IsBeside height key mismatch.at mismatch.byte k }
 {
-    let byte = byte_at(key, fork.at);
-    if fork.byte < byte {
-        return first_of(key, fork.at, fork.byte + 1);
+    let byte = byte_at(key, mismatch.at);
+    if mismatch.byte < byte {
+        return first_of(key, mismatch.at, mismatch.byte + 1);
     }
     first_of(key, height, byte_at(key, height))
 }
 
-/// The first key that is absent with all up to this one, where the key leaves the way of a node below. `None` where a writer
+/// The first key that is absent with all up to this one, where the key leaves the path of a node below. `None` where a writer
 /// came in between.
 pub fn around<A: Asks>(
     nodes: &Nodes,
     name: u64,
     height: usize,
-    fork: Fork,
+    mismatch: Mismatch,
     key: u64,
-    pass: &mut Pass,
+    seat: &mut Seat,
 ) -> Option<u64>
-    requires book { pass.old.book ≡ nodes.now }
-    requires asks { A.ask.caller ≡ pass.old.id }
-    requires named { Names pass.old.view name key height }
+    requires book { seat.old.book ≡ nodes.now }
+    requires asks { A.ask.caller ≡ seat.old.id }
+    requires named { Names seat.old.view name key height }
     requires height { (2 ≤ height) × (height ≤ 8) }
-    requires leaves { Leaves pass.old.view fork.below key fork.at fork.byte }
-    ensures told { (pass.new.book ≡ pass.old.book) × (pass.new.id ≡ pass.old.id)
-        × Keeps pass.old.view pass.new.view
-        × SeesMore pass.new.view.client.seen pass.old.id pass.old.view.client.seen
-        × IfSome result (λ first. IsPassed pass.old.id pass.old.view pass.new.view first key) }
+    requires leaves { Leaves seat.old.view mismatch.below key mismatch.at mismatch.byte }
+    ensures told { (seat.new.book ≡ seat.old.book) × (seat.new.id ≡ seat.old.id)
+        × Keeps seat.old.view seat.new.view
+        × SeesMore seat.new.view.client.seen seat.old.id seat.old.view.client.seen
+        × IfSome result (λ first. IsPassed seat.old.id seat.old.view seat.new.view first key) }
 {
-    if fork.at >= height {
+    if mismatch.at >= height {
         return None;
     }
-    if !leads_aside::<A>(nodes, name, height, fork, key, pass) {
+    if !leads_aside::<A>(nodes, name, height, mismatch, key, seat) {
         return None;
     }
-    passed(key, first_beside(key, height, fork))
+    passed(key, first_beside(key, height, mismatch))
 }

@@ -1,7 +1,7 @@
 -- LOOK-UPS of a key, which may end a call.
 use Rattle.std.specs.Prelude.{◌≡◌, ℕ, nat_eq, Bool, true, false, List, [], ◌∷◌, ◌++◌, Option, Some, None, Result, Ok, Err}
-use Rattle.node_table.specs.TableNode.{Child}
-use Rattle.node_table.specs.declared.child.Child.TheVariants.{Payload, Node}
+use Rattle.spec_node.specs.TableNode.{Child}
+use Rattle.spec_node.specs.declared.child.Child.TheVariants.{Payload, Node}
 use Rattle.spec_map.specs.Legal.{exchange}
 use Rattle.spec_map.specs.Map.{Pairs, lookup}
 use Rattle.share_rule.specs.History.{Entry, IsHistory}
@@ -9,7 +9,7 @@ use Rattle.live_nodes.specs.Seats.{Place, SeatView}
 use Rattle.live_law.specs.Levels.{Spot}
 use Rattle.live_law.specs.Views.{Watch, View, view_of, Ask, ask, got}
 use Rattle.live_law.specs.Tree.{Answers, Parts, LearnsNode}
-use Rattle.live_reads.specs.Ways.{Names, Sights}
+use Rattle.live_reads.specs.Paths.{Names, Sights}
 use Rattle.live_updates.specs.Entries.{removed, swapped}
 use Rattle.live_updates.specs.declared.lookup.Site.{Site}
 use Rattle.live_updates.specs.declared.lookup.Site.TheVariants as sites
@@ -42,7 +42,7 @@ abbrev pub MayEnd : ℕ → Option (Entry ℕ) → View → View → Type 0
 MayEnd c None v w = w ≡ v
 MayEnd c (Some e) v w = HasEnded c e v w
 
--- A NODE was read where the way ends: in a leaf, where nothing is below, or above a watched node without such keys.
+-- A NODE was read where the path ends: in a leaf, where nothing is below, or above a watched node without such keys.
 abbrev pub Seeks : Lookup → ℕ → Ask → View → Spot → Option (Child ℕ) → List Place → View → Type 0
 Seeks q word a v s None ps w = MayEnd q.caller (q.entry None) v w
 Seeks q word a v s (Some (Payload y)) ps w = MayEnd q.caller (q.entry (Some y)) v w

@@ -1,7 +1,7 @@
 -- UPDATES of a key: it has another value then, or none.
 use Rattle.std.specs.Prelude.{◌≡◌, ℕ, nat_eq, List, [], ◌∷◌, ◌++◌, Option, Some, None, Result, Ok, Err}
-use Rattle.node_table.specs.TableNode.{TableNode, Child}
-use Rattle.node_table.specs.declared.child.Child.TheVariants.{Payload}
+use Rattle.spec_node.specs.TableNode.{TableNode, Child}
+use Rattle.spec_node.specs.declared.child.Child.TheVariants.{Payload}
 use Rattle.spec_map.specs.Map.{Pairs, lookup, with_answer}
 use Rattle.share_rule.specs.History.{Entry, IsHistory}
 use Rattle.live_nodes.specs.Nodes.{Content}

@@ -1,6 +1,6 @@
 //! A key that is absent gets a value.
 ghost use Rattle.std.specs.Prelude.{◌≡◌, Some, None};
-ghost use Rattle.live_reads.specs.Stands.{Stands};
+ghost use Rattle.live_reads.specs.Positions.{KnowsPosition};
 ghost use Rattle.live_growth.specs.Calls.{IsReady};
 ghost use Rattle.live_nodes.specs.Seats.{SeatView};
 ghost use Rattle.live_law.specs.Views.{View};
@@ -11,8 +11,8 @@ use crate::leaf::{Missed, Updates, update_here};
 use live_growth::insert::{enlarge, extend, part, reserve};
 use live_growth::link::Room;
 use live_growth::map::{Refusal, TRIES};
-use live_reads::descend::{End, Stand, descend};
-use live_reads::way::{Nodes, Pass};
+use live_reads::descend::{End, Position, descend};
+use live_reads::path::{Nodes, Seat};
 use std::alloc::Global;
 
 /// How a try ends: the key has the value, it has another one already, it is to be tried again, or a node is lacking.
@@ -35,28 +35,28 @@ fn tried_with(lacks: bool) -> Tried
 /// Gives an absent key of a leaf a value, or makes room there for it.
 fn enter_at<U: Updates>(
     nodes: &Nodes,
-    stand: Stand,
+    position: Position,
     key: u64,
     value: u64,
     room: &mut Room,
-    pass: &mut Pass,
+    seat: &mut Seat,
 ) -> Tried
-    requires book { pass.old.book ≡ nodes.now }
-    requires asks { (U.update.key ≡ key) × (U.update.caller ≡ pass.old.id) }
+    requires book { seat.old.book ≡ nodes.now }
+    requires asks { (U.update.key ≡ key) × (U.update.caller ≡ seat.old.id) }
     requires values { (U.update.old ≡ None) × (U.update.new ≡ Some value) }
     requires legal { IsUpdate U.update }
-    requires ready { IsReady pass.old.view room.old }
-    requires stands { Stands pass.old.view key stand }
-    requires leaf { stand.height ≡ 1 }
-    ensures told { (pass.new.book ≡ pass.old.book) × (pass.new.id ≡ pass.old.id)
-        × IsReady pass.new.view room.new
-        × Tries U.update result pass.old.view pass.new.view }
+    requires ready { IsReady seat.old.view room.old }
+    requires position { KnowsPosition seat.old.view key position }
+    requires leaf { position.height ≡ 1 }
+    ensures told { (seat.new.book ≡ seat.old.book) × (seat.new.id ≡ seat.old.id)
+        × IsReady seat.new.view room.new
+        × Tries U.update result seat.old.view seat.new.view }
 {
-    match update_here::<U>(nodes, stand.name, key, None, Some(value), pass) {
+    match update_here::<U>(nodes, position.name, key, None, Some(value), seat) {
         None => Tried::Entered,
         Some(Missed::Changed) => Tried::Present,
         Some(Missed::Full) => {
-            let lacks = enlarge(nodes, stand, key, room, pass);
+            let lacks = enlarge(nodes, position, key, room, seat);
             tried_with(lacks)
         }
         Some(Missed::Busy) => Tried::Again,
@@ -69,27 +69,27 @@ fn enter_once<U: Updates>(
     key: u64,
     value: u64,
     room: &mut Room,
-    pass: &mut Pass,
+    seat: &mut Seat,
 ) -> Tried
-    requires book { pass.old.book ≡ nodes.now }
-    requires asks { (U.update.key ≡ key) × (U.update.caller ≡ pass.old.id) }
+    requires book { seat.old.book ≡ nodes.now }
+    requires asks { (U.update.key ≡ key) × (U.update.caller ≡ seat.old.id) }
     requires values { (U.update.old ≡ None) × (U.update.new ≡ Some value) }
     requires legal { IsUpdate U.update }
-    requires ready { IsReady pass.old.view room.old }
-    ensures told { (pass.new.book ≡ pass.old.book) × (pass.new.id ≡ pass.old.id)
-        × IsReady pass.new.view room.new
-        × Tries U.update result pass.old.view pass.new.view }
+    requires ready { IsReady seat.old.view room.old }
+    ensures told { (seat.new.book ≡ seat.old.book) × (seat.new.id ≡ seat.old.id)
+        × IsReady seat.new.view room.new
+        × Tries U.update result seat.old.view seat.new.view }
 {
-    let Some(End { stand, fork }) = descend(nodes, key, pass) else {
+    let Some(End { position, mismatch }) = descend(nodes, key, seat) else {
         return Tried::Again;
     };
-    if let Some(fork) = fork {
-        return tried_with(part(nodes, stand, fork, key, room, pass));
+    if let Some(mismatch) = mismatch {
+        return tried_with(part(nodes, position, mismatch, key, room, seat));
     }
-    if stand.height > 1 {
-        return tried_with(extend(nodes, stand, key, room, pass));
+    if position.height > 1 {
+        return tried_with(extend(nodes, position, key, room, seat));
     }
-    enter_at::<U>(nodes, stand, key, value, room, pass)
+    enter_at::<U>(nodes, position, key, value, room, seat)
 }
 
 /// Gives an absent key a value. `false` where it has one already.
@@ -99,20 +99,20 @@ pub fn enter<U: Updates>(
     key: u64,
     value: u64,
     room: &mut Room,
-    pass: &mut Pass,
+    seat: &mut Seat,
 ) -> Result<bool, Refusal>
-    requires book { pass.old.book ≡ nodes.now }
-    requires asks { (U.update.key ≡ key) × (U.update.caller ≡ pass.old.id) }
+    requires book { seat.old.book ≡ nodes.now }
+    requires asks { (U.update.key ≡ key) × (U.update.caller ≡ seat.old.id) }
     requires values { (U.update.old ≡ None) × (U.update.new ≡ Some value) }
     requires legal { IsUpdate U.update }
-    requires ready { IsReady pass.old.view room.old }
-    ensures told { (pass.new.book ≡ pass.old.book) × (pass.new.id ≡ pass.old.id)
-        × IsReady pass.new.view room.new
-        × Enters U.update result pass.old.view pass.new.view }
+    requires ready { IsReady seat.old.view room.old }
+    ensures told { (seat.new.book ≡ seat.old.book) × (seat.new.id ≡ seat.old.id)
+        × IsReady seat.new.view room.new
+        × Enters U.update result seat.old.view seat.new.view }
 {
     for _ in 0..TRIES {
-        let lacks = reserve(nodes, alloc, room, pass).is_err();
-        match enter_once::<U>(nodes, key, value, room, pass) {
+        let lacks = reserve(nodes, alloc, room, seat).is_err();
+        match enter_once::<U>(nodes, key, value, room, seat) {
             Tried::Entered => return Ok(true),
             Tried::Present => return Ok(false),
             Tried::Lacks => {

@@ -14,7 +14,7 @@ use crate::leaf::{exchange_here, update_here};
 use crate::lookup::{Site, seek};
 use live_growth::link::Room;
 use live_growth::map::{Busy, Congee, Guard, Refusal, TRIES};
-use live_reads::way::{Nodes, Pass};
+use live_reads::path::{Nodes, Seat};
 use std::alloc::Global;
 use std::marker::Brand;
 
@@ -24,26 +24,26 @@ fn present_once<F: FnMut(u64) -> Option<u64>>(
     nodes: &Nodes,
     key: u64,
     room: &mut Room,
-    pass: &mut Pass,
+    seat: &mut Seat,
     f: &mut F,
 ) -> Option<Option<(u64, Option<u64>)>>
-    requires book { pass.old.book ≡ nodes.now }
-    requires ready { IsReady pass.old.view room.old }
+    requires book { seat.old.book ≡ nodes.now }
+    requires ready { IsReady seat.old.view room.old }
     requires callable { F.IsAlwaysCallable f.old }
     ensures callable { F.IsAlwaysCallable f.new }
     ensures reached { Reaches F.step f.old f.new }
-    ensures told { (pass.new.book ≡ pass.old.book) × (pass.new.id ≡ pass.old.id)
-        × IsReady pass.new.view room.new
-        × EndsBy pass.old.id (option_map (computed_with pass.old.id key) result)
-        pass.old.view pass.new.view }
+    ensures told { (seat.new.book ≡ seat.old.book) × (seat.new.id ≡ seat.old.id)
+        × IsReady seat.new.view room.new
+        × EndsBy seat.old.id (option_map (computed_with seat.old.id key) result)
+        seat.old.view seat.new.view }
     ensures asked { IfSome result (λ both. IfSome both (λ pair.
         EndsWithCall F.step f.old pair.0 pair.1 f.new)) }
 {
-    match seek::<Brand>(nodes, key, pass)? {
+    match seek::<Brand>(nodes, key, seat)? {
         Site::Absent => Some(None),
         Site::At(leaf, value) => {
             let new = f(value);
-            if exchange_here::<Brand>(nodes, leaf, key, Some(value), new, room, pass).is_some() {
+            if exchange_here::<Brand>(nodes, leaf, key, Some(value), new, room, seat).is_some() {
                 return None;
             }
             Some(Some((value, new)))
@@ -58,30 +58,30 @@ fn always_once<F: FnMut(Option<u64>) -> u64>(
     alloc: Global,
     key: u64,
     room: &mut Room,
-    pass: &mut Pass,
+    seat: &mut Seat,
     f: &mut F,
 ) -> Result<Option<Option<u64>>, Refusal>
-    requires book { pass.old.book ≡ nodes.now }
-    requires ready { IsReady pass.old.view room.old }
+    requires book { seat.old.book ≡ nodes.now }
+    requires ready { IsReady seat.old.view room.old }
     requires callable { F.IsAlwaysCallable f.old }
     ensures callable { F.IsAlwaysCallable f.new }
     ensures reached { Reaches F.step f.old f.new }
-    ensures told { (pass.new.book ≡ pass.old.book) × (pass.new.id ≡ pass.old.id)
-        × IsReady pass.new.view room.new
-        × Stores pass.old.id key (λ before new. EndsWithCall F.step f.old before new f.new) result
-        pass.old.view pass.new.view }
+    ensures told { (seat.new.book ≡ seat.old.book) × (seat.new.id ≡ seat.old.id)
+        × IsReady seat.new.view room.new
+        × Stores seat.old.id key (λ before new. EndsWithCall F.step f.old before new f.new) result
+        seat.old.view seat.new.view }
 {
-    match seek::<Brand>(nodes, key, pass) {
+    match seek::<Brand>(nodes, key, seat) {
         Some(Site::At(leaf, value)) => {
             let new = f(Some(value));
-            if update_here::<Brand>(nodes, leaf, key, Some(value), Some(new), pass).is_some() {
+            if update_here::<Brand>(nodes, leaf, key, Some(value), Some(new), seat).is_some() {
                 return Ok(None);
             }
             Ok(Some(Some(value)))
         }
         Some(Site::Absent) => {
             let new = f(None);
-            if !enter::<Brand>(nodes, alloc, key, new, room, pass)? {
+            if !enter::<Brand>(nodes, alloc, key, new, room, seat)? {
                 return Ok(None);
             }
             Ok(Some(None))
@@ -97,19 +97,19 @@ fn keep_once(
     key: u64,
     value: u64,
     room: &mut Room,
-    pass: &mut Pass,
+    seat: &mut Seat,
 ) -> Result<Option<Option<u64>>, Refusal>
-    requires book { pass.old.book ≡ nodes.now }
-    requires ready { IsReady pass.old.view room.old }
-    ensures told { (pass.new.book ≡ pass.old.book) × (pass.new.id ≡ pass.old.id)
-        × IsReady pass.new.view room.new
-        × Stores pass.old.id key (λ found new. new ≡ unwrap_or found value) result
-        pass.old.view pass.new.view }
+    requires book { seat.old.book ≡ nodes.now }
+    requires ready { IsReady seat.old.view room.old }
+    ensures told { (seat.new.book ≡ seat.old.book) × (seat.new.id ≡ seat.old.id)
+        × IsReady seat.new.view room.new
+        × Stores seat.old.id key (λ found new. new ≡ unwrap_or found value) result
+        seat.old.view seat.new.view }
 {
-    match seek::<Brand>(nodes, key, pass) {
+    match seek::<Brand>(nodes, key, seat) {
         Some(Site::At(_leaf, found)) => Ok(Some(Some(found))),
         Some(Site::Absent) => {
-            if !enter::<Brand>(nodes, alloc, key, value, room, pass)? {
+            if !enter::<Brand>(nodes, alloc, key, value, room, seat)? {
                 return Ok(None);
             }
             Ok(Some(None))
@@ -125,25 +125,25 @@ fn add_once(
     key: u64,
     number: u64,
     room: &mut Room,
-    pass: &mut Pass,
+    seat: &mut Seat,
 ) -> Result<Option<Option<u64>>, Refusal>
-    requires book { pass.old.book ≡ nodes.now }
-    requires ready { IsReady pass.old.view room.old }
-    ensures told { (pass.new.book ≡ pass.old.book) × (pass.new.id ≡ pass.old.id)
-        × IsReady pass.new.view room.new
-        × Stores pass.old.id key (λ before new. new ≡ sum_with before number) result
-        pass.old.view pass.new.view }
+    requires book { seat.old.book ≡ nodes.now }
+    requires ready { IsReady seat.old.view room.old }
+    ensures told { (seat.new.book ≡ seat.old.book) × (seat.new.id ≡ seat.old.id)
+        × IsReady seat.new.view room.new
+        × Stores seat.old.id key (λ before new. new ≡ sum_with before number) result
+        seat.old.view seat.new.view }
 {
-    match seek::<Brand>(nodes, key, pass) {
+    match seek::<Brand>(nodes, key, seat) {
         Some(Site::At(leaf, value)) => {
             let new = value.wrapping_add(number);
-            if update_here::<Brand>(nodes, leaf, key, Some(value), Some(new), pass).is_some() {
+            if update_here::<Brand>(nodes, leaf, key, Some(value), Some(new), seat).is_some() {
                 return Ok(None);
             }
             Ok(Some(Some(value)))
         }
         Some(Site::Absent) => {
-            if !enter::<Brand>(nodes, alloc, key, number, room, pass)? {
+            if !enter::<Brand>(nodes, alloc, key, number, room, seat)? {
                 return Ok(None);
             }
             Ok(Some(None))
@@ -172,7 +172,7 @@ pub fn compute_if_present<F: FnMut(u64) -> Option<u64>>(
     ensures busy { OnErr result (guard.new ≡ guard.old) }
 {
     for _ in 0..TRIES {
-        if let Some(both) = present_once(&map.nodes, key, &mut guard.room, &mut guard.pass, f) {
+        if let Some(both) = present_once(&map.nodes, key, &mut guard.room, &mut guard.seat, f) {
             return Ok(both);
         }
     }
@@ -198,7 +198,7 @@ pub fn compute_or_insert<F: FnMut(Option<u64>) -> u64>(
     ensures refused { OnErr result (guard.new ≡ guard.old) }
 {
     for _ in 0..TRIES {
-        let done = always_once(&map.nodes, alloc, key, &mut guard.room, &mut guard.pass, f)?;
+        let done = always_once(&map.nodes, alloc, key, &mut guard.room, &mut guard.seat, f)?;
         if let Some(before) = done {
             return Ok(before);
         }
@@ -226,7 +226,7 @@ pub fn get_or_insert(
             key,
             value,
             &mut guard.room,
-            &mut guard.pass,
+            &mut guard.seat,
         )?;
         if let Some(found) = done {
             return Ok(found);
@@ -255,7 +255,7 @@ pub fn add(
             key,
             number,
             &mut guard.room,
-            &mut guard.pass,
+            &mut guard.seat,
         )?;
         if let Some(before) = done {
             return Ok(before);

@@ -5,7 +5,7 @@ use Rattle.node_base.specs.declared.base_node.NodeType.TheVariants.{N4, N16, N48
 use Rattle.node_base.specs.inner.Few.{listed}
 use Rattle.node_base.specs.inner.Sorted.{pairs}
 use Rattle.node_forms.specs.Heads.{IsNode4, IsNode16}
-use Rattle.node_table.specs.TableNode.{TableNodeOf}
+use Rattle.spec_node.specs.TableNode.{TableNodeOf}
 use Rattle.node_table.specs.inner.Kinds.{inner_node, leaf_node}
 use Rattle.node_rows.specs.declared.row_head.RowHead.{RowHead}
 use Rattle.node_rows.specs.declared.row_node.RowKind.{RowKind}

@@ -5,9 +5,9 @@ use Rattle.std.specs.Coded.{Coded, code_by, coded×, coded⊎, coded_ℕ, coded_
 use Rattle.node_base.specs.Form.{form_place}
 use Rattle.node_base.specs.declared.base_node.NodeType.{NodeType}
 use Rattle.node_base.specs.declared.base_node.NodeType.TheVariants.{N4, N16, N48, N256}
-use Rattle.node_table.specs.TableNode.{TableNodeOf, TableNode}
-use Rattle.node_table.specs.declared.child.Child.{Child as ChildOf}
-use Rattle.node_table.specs.declared.child.Child.TheVariants.{Payload, Node}
+use Rattle.spec_node.specs.TableNode.{TableNodeOf, TableNode}
+use Rattle.spec_node.specs.declared.child.Child.{Child as ChildOf}
+use Rattle.spec_node.specs.declared.child.Child.TheVariants.{Payload, Node}
 
 abbrev pub form_in_place : ℕ → NodeType
 form_in_place zero = N4

@@ -6,9 +6,9 @@ use Rattle.node_base.specs.declared.base_node.NodeType.TheVariants.{N4, N16, N48
 use Rattle.node_base.specs.inner.Few.{listed}
 use Rattle.node_base.specs.inner.Sorted.{pairs}
 use Rattle.node_forms.specs.Heads.{IsNode4, IsNode16}
-use Rattle.node_table.specs.TableNode.{TableNodeOf}
-use Rattle.node_table.specs.declared.child.Child.{Child as ChildOf}
-use Rattle.node_table.specs.declared.child.Child.TheVariants.{Payload, Node}
+use Rattle.spec_node.specs.TableNode.{TableNodeOf}
+use Rattle.spec_node.specs.declared.child.Child.{Child as ChildOf}
+use Rattle.spec_node.specs.declared.child.Child.TheVariants.{Payload, Node}
 use Rattle.node_table.specs.declared.tree_node.NodeKind.{NodeKind}
 use Rattle.node_table.specs.declared.tree_node.NodeKind.TheVariants.{Inner4, Inner16, Inner48, Inner256, Leaf4, Leaf16, Leaf48, Leaf256}
 

@@ -6,7 +6,7 @@ ghost use Rattle.std.specs.Prelude.{◌≡◌, ◌+◌, length, IfOk, IfErr, OnO
 ghost use Rattle.std.specs.Option.{option_map};
 ghost use Rattle.spec_map.specs.Map.{lookup, put, without};
 ghost use Rattle.node_base.specs.Form.{Fits};
-ghost use Rattle.node_table.specs.declared.child.Child.TheVariants.{Payload};
+ghost use Rattle.spec_node.specs.declared.child.Child.TheVariants.{Payload};
 
 use crate::kinds::HasPayloads;
 use crate::tree_node::{NodeKind, TreeNode};

@@ -1,8 +1,8 @@
 -- What a Check finds at a node on its key's path whose word is the remembered one.
 use Rattle.std.specs.Prelude.{◌≡◌, ◌↔◌, Bool, IsTrue, ℕ, ◌+◌, ◌<◌, List, length, Some, None, Err}
 use Rattle.node_base.specs.Form.{Fits}
-use Rattle.node_table.specs.TableNode.{TableNode}
-use Rattle.node_table.specs.declared.child.Child.TheVariants.{Payload, Node as below_at}
+use Rattle.spec_node.specs.TableNode.{TableNode}
+use Rattle.spec_node.specs.declared.child.Child.TheVariants.{Payload, Node as below_at}
 use Rattle.spec_olc.specs.Calls.{Outline}
 use Rattle.spec_olc.specs.declared.types.Op.TheVariants.{Insert, ComputeIfPresent, ComputeOrInsert, CompareExchange}
 use Rattle.spec_olc.specs.declared.types.Reply.{Reply}

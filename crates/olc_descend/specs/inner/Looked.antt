@@ -2,8 +2,8 @@
 use Rattle.std.specs.Prelude.{◌≡◌, ℕ, ◌+◌, Bool, IsTrue, ◌↔◌, length, Option, Some, None}
 use Rattle.node_base.specs.Form.{Fits}
 use Rattle.node_base.specs.declared.base_node.NodeType.{NodeType}
-use Rattle.node_table.specs.TableNode.{TableNode, Child}
-use Rattle.node_table.specs.declared.child.Child.TheVariants.{Payload, Node as below_at}
+use Rattle.spec_node.specs.TableNode.{TableNode, Child}
+use Rattle.spec_node.specs.declared.child.Child.TheVariants.{Payload, Node as below_at}
 use Rattle.spec_olc.specs.Calls.{Outline, key_of}
 use Rattle.spec_olc.specs.Local.{SharesNone, payload_in}
 use Rattle.spec_olc.specs.Reading.{IsSeenOf, child_for}

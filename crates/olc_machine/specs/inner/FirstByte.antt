@@ -1,6 +1,6 @@
 -- The byte at which a search for the first key from `start` on begins in a node.
 use Rattle.std.specs.Prelude.{◌≡◌, ℕ, ◌<◌, ◌≤◌, List, [], ◌∷◌, ◌++◌, length}
-use Rattle.node_table.specs.Key.{low, high}
+use Rattle.spec_node.specs.Key.{low, high}
 
 -- below this prefix, all keys under lesser bytes are before `start`; in a leaf, no other keys are
 pub record IsFirstByte (p : List ℕ) (start from : ℕ) : Type 0 where

@@ -2,9 +2,9 @@
 use Rattle.std.specs.Prelude.{Bool, ◌≡◌, ℕ, ◌+◌, ◌<◌, ◌-◌, ◌^◌, min, List, [], ◌∷◌, length, Option, Some, None, ◌⊎◌, ◌↔◌, IsTrue}
 use Rattle.node_base.specs.Form.{Fits}
 use Rattle.spec_map.specs.Map.{Pairs, between, lookup}
-use Rattle.node_table.specs.Key.{next_byte}
-use Rattle.node_table.specs.TableNode.{TableNode, Child}
-use Rattle.node_table.specs.declared.child.Child.TheVariants.{Payload}
+use Rattle.spec_node.specs.Key.{next_byte}
+use Rattle.spec_node.specs.TableNode.{TableNode, Child}
+use Rattle.spec_node.specs.declared.child.Child.TheVariants.{Payload}
 use Rattle.spec_olc.specs.Calls.{bytes_of}
 use Rattle.spec_olc.specs.Deciding.{ContentAfter}
 use Rattle.spec_olc.specs.Kinds.{DoesAs}

@@ -1,9 +1,9 @@
 -- What a call that cleans up finds at a node on its key's path.
 use Rattle.std.specs.Prelude.{◌≡◌, ◌≢◌, ℕ, ◌<◌, ◌≤◌, List, length, Option, Some, None, ◌⊎◌}
 use Rattle.spec_map.specs.Map.{lookup}
-use Rattle.node_table.specs.Key.{next_byte}
-use Rattle.node_table.specs.TableNode.{TableNode, Child}
-use Rattle.node_table.specs.declared.child.Child.TheVariants.{Node as below_at}
+use Rattle.spec_node.specs.Key.{next_byte}
+use Rattle.spec_node.specs.TableNode.{TableNode, Child}
+use Rattle.spec_node.specs.declared.child.Child.TheVariants.{Node as below_at}
 use Rattle.spec_olc.specs.Reading.{IsSeenOf}
 use Rattle.spec_olc.specs.declared.types.Seen.{Seen}
 use Rattle.olc_state.specs.declared.stage.Path.{Path}

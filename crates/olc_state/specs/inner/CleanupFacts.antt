@@ -1,8 +1,8 @@
 -- WHAT A CALL KNOWS before each event of a cleanup.
 use Rattle.std.specs.Prelude.{Bool, ◌≡◌, ◌≢◌, ℕ, ◌<◌, ◌≤◌, IsTrue, ◌↔◌, List, [], length, Some, None}
 use Rattle.node_base.specs.Form.{few_in, smaller_form}
-use Rattle.node_table.specs.Key.{Begins}
-use Rattle.node_table.specs.TableNode.{TableNode}
+use Rattle.spec_node.specs.Key.{Begins}
+use Rattle.spec_node.specs.TableNode.{TableNode}
 use Rattle.spec_olc.specs.Reading.{IsSeenOf}
 use Rattle.spec_olc.specs.declared.types.Seen.{Seen}
 use Rattle.olc_state.specs.declared.cleanup.Cleanup.{Cleanup}

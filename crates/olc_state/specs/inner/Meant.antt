@@ -1,6 +1,6 @@
 -- The machine's inside, with each payload replaced by its meaning.
 use Rattle.std.specs.Prelude.{◌≡◌, ℕ, List, Option, Some, map}
-use Rattle.node_table.specs.TableNode.{TableNode}
+use Rattle.spec_node.specs.TableNode.{TableNode}
 use Rattle.node_table.specs.inner.Kinds.{mapped}
 use Rattle.spec_olc.specs.Meaning.{in_some, child_of, seen_of, op_of, asking_of}
 use Rattle.olc_words.specs.Epoch.{entry_at}

@@ -1,7 +1,7 @@
 -- WHAT A RANGE KNOWS before its next event.
 use Rattle.std.specs.Prelude.{◌≡◌, ◌≢◌, ℕ, ◌<◌, ◌≤◌, ◌^◌, max, Option, Some, None, ◌⊎◌}
-use Rattle.node_table.specs.Key.{low, high}
-use Rattle.node_table.specs.declared.child.Child.TheVariants.{Node as below_at}
+use Rattle.spec_node.specs.Key.{low, high}
+use Rattle.spec_node.specs.declared.child.Child.TheVariants.{Node as below_at}
 use Rattle.spec_olc.specs.Calls.{Outline, outline_of}
 use Rattle.spec_olc.specs.Local.{payload_in}
 use Rattle.spec_olc.specs.Reading.{HasAll, bound_at, first_from}

@@ -1,6 +1,6 @@
 -- ONE SLOT of a store changes.
 use Rattle.std.specs.Prelude.{◌≡◌, ◌≢◌, ℕ, Option}
-use Rattle.node_table.specs.TableNode.{TableNode}
+use Rattle.spec_node.specs.TableNode.{TableNode}
 use Rattle.olc_state.specs.declared.store.Store.{Store}
 use Rattle.olc_state.specs.inner.Meant.{meant_table}
 use Rattle.olc_state.specs.inner.World.{PlacedNode, is_private}

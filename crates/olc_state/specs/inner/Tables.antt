@@ -3,8 +3,8 @@
 use Rattle.std.specs.Prelude.{◌≡◌, ◌≢◌, ℕ, ◌≤◌, Bool, IsTrue, List, [], ◌∷◌, ◌++◌, length, Option, Some, None, ◌⊎◌, ◌↔◌}
 use Rattle.node_base.specs.declared.base_node.NodeType.TheVariants.{N256}
 use Rattle.spec_map.specs.Map.{Rises}
-use Rattle.node_table.specs.Key.{Begins, AreBytes, next_byte}
-use Rattle.node_table.specs.declared.child.Child.TheVariants.{Payload, Node as below_at}
+use Rattle.spec_node.specs.Key.{Begins, AreBytes, next_byte}
+use Rattle.spec_node.specs.declared.child.Child.TheVariants.{Payload, Node as below_at}
 use Rattle.spec_olc.specs.Lock.{IsFree, IsLocked, IsObsolete}
 use Rattle.olc_state.specs.declared.stage.Path.{Path}
 use Rattle.olc_state.specs.declared.stage.Spot.{Spot}

@@ -4,9 +4,9 @@ use Rattle.std.specs.Prelude.{Bool, false, IsTrue, ◌≡◌, ◌≢◌, ℕ, �
 use Rattle.node_base.specs.Form.{Fits, next_form}
 use Rattle.node_base.specs.declared.base_node.NodeType.TheVariants.{N4}
 use Rattle.spec_map.specs.Map.{put}
-use Rattle.node_table.specs.Key.{Begins, next_byte}
-use Rattle.node_table.specs.TableNode.{TableNode, Child}
-use Rattle.node_table.specs.declared.child.Child.TheVariants.{Payload, Node as below_at}
+use Rattle.spec_node.specs.Key.{Begins, next_byte}
+use Rattle.spec_node.specs.TableNode.{TableNode, Child}
+use Rattle.spec_node.specs.declared.child.Child.TheVariants.{Payload, Node as below_at}
 use Rattle.spec_olc.specs.Calls.{stored}
 use Rattle.spec_olc.specs.Local.{payload_in, seen_payload}
 use Rattle.spec_olc.specs.declared.types.Asking.TheVariants.{Wants}

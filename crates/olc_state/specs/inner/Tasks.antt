@@ -1,6 +1,6 @@
 -- THE TASK of a call: what it has seen, and whether it still has its payloads.
 use Rattle.std.specs.Prelude.{Bool, IsTrue, ◌≡◌, ◌<◌, ◌≤◌, ℕ, List, Option, Some, None}
-use Rattle.node_table.specs.declared.child.Child.TheVariants.{Node as below_at}
+use Rattle.spec_node.specs.declared.child.Child.TheVariants.{Node as below_at}
 use Rattle.spec_olc.specs.Alone.{may_remove}
 use Rattle.spec_olc.specs.Calls.{IsPoint, bytes_of, key_of, outline_of}
 use Rattle.spec_olc.specs.Local.{SharesNone, payload_in}

@@ -1,7 +1,7 @@
 -- The walk over the nodes in their slots.
 use Rattle.std.specs.Prelude.{◌≡◌, ℕ, suc, List, [], ◌∷◌, ◌++◌, Option, Some, None}
 use Rattle.spec_map.specs.Map.{Pairs}
-use Rattle.node_table.specs.TableNode.{TableNode}
+use Rattle.spec_node.specs.TableNode.{TableNode}
 use Rattle.node_table.specs.Table.{IsSubtree, pairs_at}
 use Rattle.node_table.specs.inner.Kinds.{mapped}
 use Rattle.olc_state.specs.declared.stage.Stored.{Stored}

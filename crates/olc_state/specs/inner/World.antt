@@ -2,7 +2,7 @@
 use Rattle.std.specs.Prelude.{ℕ, List, Option, Some, None, slice_index_or}
 use Rattle.node_table.specs.Charge.{Charge}
 use Rattle.spec_map.specs.Map.{lookup}
-use Rattle.node_table.specs.TableNode.{TableNode, Child}
+use Rattle.spec_node.specs.TableNode.{TableNode, Child}
 use Rattle.olc_words.specs.Epoch.{PinsView, entry_at}
 use Rattle.olc_words.specs.declared.epoch.Life.{Life}
 use Rattle.olc_words.specs.declared.epoch.Life.TheVariants.{InUse, Retired}

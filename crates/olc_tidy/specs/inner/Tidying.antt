@@ -3,7 +3,7 @@ use Rattle.std.specs.Prelude.{◌≡◌, ℕ, ◌<◌, ◌≤◌, Bool, true, fa
 use Rattle.node_table.specs.Charge.{Charge}
 use Rattle.node_base.specs.Form.{few_in, form_place, next_form}
 use Rattle.node_base.specs.declared.base_node.NodeType.{NodeType}
-use Rattle.node_table.specs.TableNode.{TableNode}
+use Rattle.spec_node.specs.TableNode.{TableNode}
 use Rattle.spec_olc.specs.declared.types.Env.{Env}
 use Rattle.spec_olc.specs.declared.types.Outcome.{Outcome}
 use Rattle.spec_olc.specs.declared.types.Report.{Report}

@@ -1,6 +1,6 @@
 -- What a Write leaves to clean up.
 use Rattle.std.specs.Prelude.{◌≡◌, Bool, true, length, Option, Some, None}
-use Rattle.node_table.specs.TableNode.{TableNode}
+use Rattle.spec_node.specs.TableNode.{TableNode}
 use Rattle.spec_olc.specs.Due.{IsDue}
 use Rattle.olc_state.specs.declared.cleanup.Cleanup.{Cleanup}
 

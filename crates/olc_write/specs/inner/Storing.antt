@@ -1,7 +1,7 @@
 -- What a call stores, and how that changes a leaf and the number of pairs.
 use Rattle.std.specs.Prelude.{ℕ, ◌+◌, ◌-◌, Bool, true, false, Option, Some, None}
 use Rattle.spec_map.specs.Map.{with_answer}
-use Rattle.node_table.specs.declared.child.Child.TheVariants.{Payload}
+use Rattle.spec_node.specs.declared.child.Child.TheVariants.{Payload}
 use Rattle.spec_olc.specs.Meaning.{in_some}
 use Rattle.spec_olc.specs.declared.types.Asking.{Asking}
 use Rattle.spec_olc.specs.declared.types.Asking.TheVariants.{Given}

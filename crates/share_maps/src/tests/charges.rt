@@ -132,7 +132,7 @@ fn steps_after<L: Ledger, M: Pages + Made<u64, u64, Counted>, R: Wait>(
     steps_gone(rt, &map, &charged, steps)
 }
 
-// The same on the machine, and on the tree.
+// How many steps go as they say on a new map over the machine, and on one over the tree, after the first keys are stored.
 fn gone_on_both<R: Wait>(
     rt: &R,
     alloc: Global,

@@ -1,6 +1,6 @@
 //! The calls that put a new number together from the current one, in one hold.
 //!
-//! Tested in `test_share_sharded`.
+//! Tested in `test_share_shards`.
 
 ghost use Rattle.std.specs.Prelude.{◌≡◌, IfOk, OnErr, unwrap_or};
 ghost use Rattle.share_calls.specs.Computed.{sum_with};

@@ -1,6 +1,6 @@
 //! The ends of a map, the neighbours of a key, and pops: each one moment of the whole map.
 //!
-//! Tested in `test_share_sharded`.
+//! Tested in `test_share_shards`.
 
 ghost use Rattle.std.specs.Prelude.{◌≡◌, IfOk, OnErr};
 ghost use Rattle.std.specs.Option.{option_map};

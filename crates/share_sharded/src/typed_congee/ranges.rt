@@ -1,6 +1,6 @@
 //! Ranges both ways, each of one moment of the whole map.
 //!
-//! Tested in `test_share_sharded`.
+//! Tested in `test_share_shards`.
 
 ghost use Rattle.std.specs.Prelude.{◌≡◌, ◌+◌, IfOk, OnErr};
 ghost use Rattle.share_works.specs.Listed.{ListsFirst, ListsLast};

@@ -1,6 +1,6 @@
 //! The calls on the whole map: its counts, its limit and what it is charged, and its removal.
 //!
-//! Tested in `test_share_sharded`.
+//! Tested in `test_share_shards`.
 
 ghost use Rattle.std.specs.Prelude.{◌≡◌, ◌≤◌, ◌*◌, ℕ, IfOk, OnErr, OnOk};
 ghost use Rattle.share_rule.specs.Known.{MadeCall, MadeCalls};

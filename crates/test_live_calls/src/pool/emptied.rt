@@ -7,11 +7,11 @@ use live_reads::descend::descend;
 use std::alloc::Global;
 use std::test::Fail;
 
-// The height of the node at which a key's way ends: 1 at a leaf, 8 at the root. 0 where a writer came in between.
+// The height of the node at which a key's path ends: 1 at a leaf, 8 at the root. 0 where a writer came in between.
 fn end_of(map: &Pool, key: u64) -> usize {
     let mut guard = map.pin();
-    match descend(&map.map.nodes, key, &mut guard.pass) {
-        Some(end) => end.stand.height,
+    match descend(&map.map.nodes, key, &mut guard.seat) {
+        Some(end) => end.position.height,
         None => 0,
     }
 }
@@ -46,7 +46,7 @@ fn emptied(map: &Pool, first: u64, step: u64, count: u32) -> u32 {
     had
 }
 
-// How many of these keys have a way that ends at the root.
+// How many of these keys have a path that ends at the root.
 fn rooted(map: &Pool, first: u64, step: u64, count: u32) -> u32 {
     let mut key = first;
     let mut ends = 0u32;

@@ -1,7 +1,7 @@
 //! The law of the pairs, and what is learnt by it.
 
 use live_nodes::law::NodeLaw;
-use live_nodes::plays::{Birth, Change, Lesson};
+use live_nodes::plays::{OnCheck, OnLock, OnMake};
 
 /// A seat of a client knows the key of a leaf, or 0.
 pub struct Pairs;
@@ -19,7 +19,7 @@ impl NodeLaw<u64> for Pairs {
 /// Where the leaf lies that the root names.
 pub struct Child;
 
-impl Lesson<u64> for Child {
+impl OnCheck<u64> for Child {
     ghost use Rattle.test_live_words.specs.Pairs.{LearnsChild};
 
     ghost told = { LearnsChild };
@@ -28,7 +28,7 @@ impl Lesson<u64> for Child {
 /// That a leaf's numbers are equal.
 pub struct Equal;
 
-impl Lesson<u64> for Equal {
+impl OnCheck<u64> for Equal {
     ghost use Rattle.test_live_words.specs.Pairs.{LearnsEqual};
 
     ghost told = { LearnsEqual };
@@ -37,7 +37,7 @@ impl Lesson<u64> for Equal {
 /// A node is locked or free again, and nothing is learnt.
 pub struct Same;
 
-impl Change<u64> for Same {
+impl OnLock<u64> for Same {
     ghost use Rattle.test_live_words.specs.Pairs.{StaysSame};
 
     ghost told = { StaysSame };
@@ -46,7 +46,7 @@ impl Change<u64> for Same {
 /// A leaf is made, whose key is known from then on.
 pub struct Leaf;
 
-impl Birth<u64> for Leaf {
+impl OnMake<u64> for Leaf {
     ghost use Rattle.test_live_words.specs.Pairs.{KnowsLeaf};
 
     ghost told = { KnowsLeaf };

@@ -17,7 +17,7 @@ pub fn new_nodes(alloc: Global) -> Result<Nodes, AllocError> {
     Heap::new(alloc, 1)
 }
 
-/// The same with a limit on the bytes of its segments.
+/// The root alone, which names no leaf, under a limit on the bytes of the segments.
 pub fn limited_nodes(alloc: Global, limit: u64) -> Result<Nodes, AllocError> {
     Heap::with_limit(alloc, 1, limit)
 }

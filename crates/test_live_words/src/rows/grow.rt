@@ -11,9 +11,9 @@ use crate::rows::law::{Locked, Mine, New, Same, Tagged};
 use crate::rows::leaf::{Guest, Nodes};
 use live_layout::fill::{grow, lay};
 use live_layout::form::{form_below, next_of, slot_below, word_below, words_in};
-use live_layout::words::Draft;
+use live_layout::words::WriteWords;
 use live_nodes::law::Word;
-use live_nodes::rows::{Fresh, Held};
+use live_nodes::rows::{LockedWords, NewWords};
 use live_nodes::{node, room};
 use node_base::base_node::NodeType;
 use std::alloc::{AllocError, Global};
@@ -32,7 +32,7 @@ fn make(words: &[Word<Mine, Tagged>], key: u64, form: NodeType, seat: &mut Guest
     ensures places { (p : Place) → IsIn p seat.old.view.places → IsIn p seat.new.view.places }
     ensures known { (a : Known) → IsIn a seat.old.view.client → IsIn a seat.new.view.client }
 {
-    let fresh: Fresh<'_, Mine, Tagged> = Fresh { words };
+    let fresh: NewWords<'_, Mine, Tagged> = NewWords { words };
     let last = fresh.get(words_in(form) - 1, seat);
     room::make::<Mine, Tagged, New>(&words[words_in(form)], last, seat);
     word_below(key, form)
@@ -56,7 +56,7 @@ pub fn new_leaf(nodes: &Nodes, alloc: Global, seat: &mut Guest) -> Result<Option
     let Some(words) = nodes.span(key, 7) else {
         return Ok(None);
     };
-    let fresh: Fresh<'_, Mine, Tagged> = Fresh { words };
+    let fresh: NewWords<'_, Mine, Tagged> = NewWords { words };
     lay(&fresh, NodeType::N4, &[0; 7], seat);
     Ok(Some(make(words, key, NodeType::N4, seat)))
 }
@@ -79,7 +79,7 @@ pub fn name(nodes: &Nodes, leaf: u64, seat: &mut Guest) -> bool
     if !node::lock::<Mine, Tagged, Locked>(&words[0], free, seat) {
         return false;
     }
-    let held: Held<'_, Mine, Tagged, 0> = Held { words };
+    let held: LockedWords<'_, Mine, Tagged, 0> = LockedWords { words };
     held.set(0, leaf, seat);
     node::unlock::<Mine, Tagged, Same>(&words[0], free, seat);
     true
@@ -106,15 +106,20 @@ fn move_leaf(
     ensures places { (p : Place) → IsIn p seat.old.view.places → IsIn p seat.new.view.places }
     ensures known { (a : Known) → IsIn a seat.old.view.client → IsIn a seat.new.view.client }
 {
-    let held: Held<'_, Mine, Tagged, 0> = Held { words };
-    let fresh: Fresh<'_, Mine, Tagged> = Fresh { words: others };
+    let held: LockedWords<'_, Mine, Tagged, 0> = LockedWords { words };
+    let fresh: NewWords<'_, Mine, Tagged> = NewWords { words: others };
     grow(&held, form, &fresh, seat);
     make(others, key, next_of(form), seat)
 }
 
 /// A leaf gives its payloads to a new one of the next form, which the root names from then on, and becomes obsolete.
 /// `false` where it has no next form, or another writer is busy.
-pub fn widen(nodes: &Nodes, alloc: Global, leaf: u64, seat: &mut Guest) -> Result<bool, AllocError>
+pub fn grow_node(
+    nodes: &Nodes,
+    alloc: Global,
+    leaf: u64,
+    seat: &mut Guest,
+) -> Result<bool, AllocError>
     requires book { seat.old.book ≡ nodes.now }
     requires root { KnowsRoot seat.old.view }
     requires leaf { KnowsLeaf seat.old.view leaf }

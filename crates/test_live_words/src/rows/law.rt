@@ -1,7 +1,7 @@
 //! The law of the leaves, and what is learnt by it.
 
 use live_nodes::law::NodeLaw;
-use live_nodes::plays::{Birth, Change, Lesson};
+use live_nodes::plays::{OnCheck, OnLock, OnMake};
 use std::marker::Model;
 
 /// Which leaves a seat knows. It exists in proofs alone.
@@ -33,7 +33,7 @@ impl NodeLaw<Mine> for Tagged {
 /// Which leaf the root names.
 pub struct Child;
 
-impl Lesson<Mine> for Child {
+impl OnCheck<Mine> for Child {
     ghost use Rattle.test_live_words.specs.Leaves.{LearnsChild};
 
     ghost told = { LearnsChild };
@@ -42,7 +42,7 @@ impl Lesson<Mine> for Child {
 /// That what was read of a leaf is a leaf's.
 pub struct Leaf;
 
-impl Lesson<Mine> for Leaf {
+impl OnCheck<Mine> for Leaf {
     ghost use Rattle.test_live_words.specs.Leaves.{LearnsLeaf};
 
     ghost told = { LearnsLeaf };
@@ -51,7 +51,7 @@ impl Lesson<Mine> for Leaf {
 /// The content of a leaf that was locked.
 pub struct Locked;
 
-impl Change<Mine> for Locked {
+impl OnLock<Mine> for Locked {
     ghost use Rattle.test_live_words.specs.Leaves.{LearnsHeld};
 
     ghost told = { LearnsHeld };
@@ -60,7 +60,7 @@ impl Change<Mine> for Locked {
 /// Nothing is learnt.
 pub struct Same;
 
-impl Change<Mine> for Same {
+impl OnLock<Mine> for Same {
     ghost use Rattle.test_live_words.specs.Leaves.{StaysSame};
 
     ghost told = { StaysSame };
@@ -69,7 +69,7 @@ impl Change<Mine> for Same {
 /// A leaf is made.
 pub struct New;
 
-impl Birth<Mine> for New {
+impl OnMake<Mine> for New {
     ghost use Rattle.test_live_words.specs.Leaves.{KnowsNew};
 
     ghost told = { KnowsNew };

@@ -8,11 +8,11 @@ use crate::rows::law::{Child, Leaf, Locked, Mine, Same, Tagged};
 use live_layout::change::{change, is_full, put};
 use live_layout::form::{form_below, slot_below, words_in};
 use live_layout::search::find;
-use live_layout::words::Draft;
+use live_layout::words::WriteWords;
 use live_nodes::heap::Heap;
 use live_nodes::law::Seat;
 use live_nodes::node;
-use live_nodes::rows::{Held, Row};
+use live_nodes::rows::{LockedWords, SharedWords};
 use node_base::base_node::NodeType;
 use std::alloc::{AllocError, Global};
 
@@ -70,7 +70,7 @@ pub fn get(nodes: &Nodes, leaf: u64, byte: u8, seat: &mut Guest) -> Option<Optio
     if taken % 4 != 0 {
         return None;
     }
-    let row = Row { words };
+    let row = SharedWords { words };
     let found = find(&row, form, byte, seat);
     if !node::check::<Mine, Tagged, Leaf>(&words[0], taken, seat) {
         return None;
@@ -79,7 +79,7 @@ pub fn get(nodes: &Nodes, leaf: u64, byte: u8, seat: &mut Guest) -> Option<Optio
 }
 
 // Gives a byte of a leaf a payload. `false` where there is no room.
-fn write<S, D: Draft<S>>(draft: &D, form: NodeType, byte: u8, x: u64, seat: &mut S) -> bool
+fn write<S, D: WriteWords<S>>(draft: &D, form: NodeType, byte: u8, x: u64, seat: &mut S) -> bool
     requires tagged { x % 256 ≡ byte }
     requires may { D.may_write draft.now seat.old }
     requires leaf { IsLeaf form (D.words draft.now seat.old) }
@@ -122,7 +122,7 @@ pub fn set(nodes: &Nodes, leaf: u64, byte: u8, x: u64, seat: &mut Guest) -> Outc
     if !node::lock::<Mine, Tagged, Locked>(&words[0], free, seat) {
         return Outcome::Busy;
     }
-    let held: Held<'_, Mine, Tagged, 0> = Held { words };
+    let held: LockedWords<'_, Mine, Tagged, 0> = LockedWords { words };
     let wrote = write(&held, form, byte, x, seat);
     node::unlock::<Mine, Tagged, Same>(&words[0], free, seat);
     if wrote { Outcome::Done } else { Outcome::Full }

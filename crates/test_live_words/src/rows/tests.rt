@@ -1,6 +1,6 @@
 //! One thread, and several threads at one leaf.
 
-use crate::rows::grow::{name, new_leaf, widen};
+use crate::rows::grow::{grow_node, name, new_leaf};
 use crate::rows::leaf::{Nodes, Outcome, child, enter, get, new_nodes, set};
 use std::alloc::Global;
 use std::test::Fail;
@@ -159,7 +159,7 @@ fn two_writers_at_one_leaf_lose_nothing(rt: HostRuntime) {
     assert!(rt; seen == Some(((20_000, 20_000), (0, 0))));
 }
 
-// Writes under every third byte, and widens the leaf where it is full. Returns how many are there.
+// Writes under every third byte, and grows the leaf where it is full. Returns how many are there.
 fn filled(nodes: &Nodes, alloc: Global) -> u32 {
     let mut done = 0u32;
     for byte in 0..=254u8 {
@@ -182,11 +182,11 @@ fn written_wide(nodes: &Nodes, alloc: Global, byte: u8) -> bool {
     false
 }
 
-// The leaf that the root names is widened, unless a writer is busy there.
+// The leaf that the root names grows, unless a writer is busy there.
 fn wider(nodes: &Nodes, alloc: Global) {
     let mut seat = enter(nodes);
     if let Some(leaf) = child(nodes, &mut seat) {
-        let _ = widen(nodes, alloc, leaf, &mut seat);
+        let _ = grow_node(nodes, alloc, leaf, &mut seat);
     }
 }
 

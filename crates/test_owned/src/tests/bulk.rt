@@ -180,7 +180,7 @@ fn takes(map: &mut Limited, way: Way, range: Range) -> bool {
     taken == wanted && map.value_count().wrapping_add(taken) == u128::from(keys.0)
 }
 
-// The same, and then whether the rest goes at once.
+// Whether the pairs within the range go, and these alone, and the rest then goes at once.
 fn takes_all(map: &mut Limited, way: Way, range: Range) -> bool {
     let right = takes(map, way, range);
     let left = map.value_count();
@@ -265,7 +265,7 @@ fn inserts_six(map: &mut Limited, limit: &Limit) -> bool {
         && [map.get(&1), map.get(&2), map.get(&256), map.get(&512)] == limit.2
 }
 
-// The same by numbers.
+// Whether `insert_numbers` of the six pairs returns what it has to under this limit, and stores what it has to.
 fn inserts_numbers(map: &mut Limited, limit: &Limit) -> bool {
     map.insert_numbers(&SIX) == limit.1
         && [map.get(&1), map.get(&2), map.get(&256), map.get(&512)] == limit.2

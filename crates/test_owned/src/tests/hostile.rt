@@ -60,7 +60,7 @@ fn make(map: &mut FickleMap<'_>, key: u64, value: u64) -> Option<Option<u64>> {
     }
 }
 
-// The same for the plain map.
+// Makes the call of `make` on the plain map. Returns the previous value.
 fn make_plain(plain: &mut SortedPairs<u64>, key: u64, value: u64) -> Option<u64> {
     match value % 5 {
         0 => plain.remove(key),

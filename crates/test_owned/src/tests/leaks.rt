@@ -47,7 +47,7 @@ fn dropped(
     Ok(refused)
 }
 
-// The same of a map that is drained. Returns with how many pairs the closure is called.
+// Makes a map with so many keys, and drains it. Returns with how many pairs the closure is called.
 fn drained(
     alloc: Global,
     counts: &Counts,
@@ -94,7 +94,8 @@ fn drop_gives_sizes_back(rt: HostRuntime) {
     }
 }
 
-// The same after a drain, whose closure is called with all pairs, and the drainer with none.
+// Whether nothing is held after a drain, which makes no request. The closure was called with all pairs, and the drainer
+// with none.
 fn drain_is_right(alloc: Global, keys: u64) -> bool {
     let (counts, reported) = (Counts::new(), AtomicU64::new(0));
     let handed = drained(alloc, &counts, &reported, keys).ok();
@@ -200,7 +201,7 @@ fn retained_until_dropped(
     owners_retained(&mut CongeeArc::new_in(alloc, Counted { counts })?, owner)
 }
 
-// The same, how many there are at the end, and the bytes that are still held then.
+// What `owners_retained` returns, how many owners there are at the end, and the bytes that are still held then.
 fn owners_after_retain(alloc: Global) -> Result<([usize; 3], usize, u64), OOMError> {
     let counts = Counts::new();
     let owner = Arc::new(alloc, 7u64)?;

@@ -87,7 +87,7 @@ fn count_wanted<K: Word + PartialEq, V: Word + PartialEq>(
     rows.len()
 }
 
-// The same of the replies to the calls of the rows, made as one list.
+// Makes the calls of the rows as one list. How many replies, from the first on, are the wanted ones.
 fn list_wanted<K: Word + PartialEq, V: Word + PartialEq>(
     alloc: Global,
     map: &mut Congee<K, V>,
@@ -153,7 +153,7 @@ fn count_number_wanted<V: Word + PartialEq>(
     rows.len()
 }
 
-// The same of the replies to the calls of the rows, made as one list.
+// Makes the rows' calls by numbers as one list. How many replies, from the first on, are the wanted ones.
 fn number_list_wanted<V: Word + PartialEq>(
     alloc: Global,
     map: &mut U64Congee<V>,

@@ -62,7 +62,7 @@ fn right_puts(map: &mut Limited) -> u64 {
     64
 }
 
-// The same of pairs that are taken out again.
+// How many pairs are taken out before one isn't charged as it should be, or another than it is lost.
 fn right_takes(map: &mut Limited) -> u64 {
     for i in 0..64u64 {
         let left = 63 - i;

@@ -124,7 +124,7 @@ fn ends_neighbours_and_pops(rt: HostRuntime) -> Result<(), Fail> {
     Ok(())
 }
 
-// The same calls by typed keys and values: the pair, its neighbours, and what is left.
+// Calls ends, neighbours and pops by typed keys and values, on a map of two pairs. Returns the number of a wrong call, or 0.
 fn typed<L: Ledger, R: Wait>(rt: &R, alloc: Global, blank: Blank) -> Result<usize, Fail>
     requires name { blank.name ≡ L.name }
     requires parts { blank.parts ≡ L.parts }

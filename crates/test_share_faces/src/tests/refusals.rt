@@ -1,5 +1,5 @@
 //! Maps under a budget: none is made below its root's size, and an insertion that needs a further node is refused and changes
-//! nothing. `test_share_hostile` has `Congee` under budgets of every size.
+//! nothing. `test_share_guards` has `Congee` under budgets of every size.
 
 ghost use Rattle.std.specs.Prelude.{◌≡◌, ◌+◌, ◌^◌};
 
@@ -38,7 +38,7 @@ fn right_by_number<L: Ledger, M: Pages, R: Wait>(
     right
 }
 
-// The same, and how many pairs are counted in the end.
+// The number of the limited calls before the first wrong one, and how many pairs are counted in the end.
 fn counted_by_number<L: Ledger, M: Pages, R: Wait>(
     rt: &R,
     map: &U64Congee<L, u64, M>,

@@ -118,7 +118,7 @@ fn right_rows<L: Ledger, M: Ascending, R: Wait>(
     right
 }
 
-// The same of one with typed keys.
+// The number of the rows before the first wrong one, of a map with typed keys.
 fn right_rows_typed<L: Ledger, M: Ascending, R: Wait>(
     rt: &R,
     map: &Congee<L, u64, u64, M>,

@@ -30,7 +30,8 @@ fn stored_by<L: Ledger, R: Wait>(
     back
 }
 
-// The same with a guard of the key's own. While the other thread is given a seat, it tries again.
+// Stores a key with a guard of the key's own, and reads it back. While the other thread is given a seat, the pin is tried
+// again.
 fn stored_once<L: Ledger, R: Wait>(rt: &R, map: &Map<L>, key: u64) -> bool {
     for _ in 0..1_000_000u32 {
         match map.pin(rt) {
@@ -42,7 +43,7 @@ fn stored_once<L: Ledger, R: Wait>(rt: &R, map: &Map<L>, key: u64) -> bool {
     false
 }
 
-// The same, where the call waits.
+// Stores a key with a guard of the key's own, and reads it back. The pin waits while the other thread is given a seat.
 fn stored_waiting<L: Ledger, R: Wait>(rt: &R, map: &Map<L>, key: u64) -> bool {
     match map.pin_waiting(rt) {
         Ok(guard) => stored_by(rt, map, guard, key),
@@ -86,7 +87,7 @@ fn comes_back<L: Ledger, R: Wait>(
     found == Some(key)
 }
 
-// The same with one guard.
+// Stores a thousand keys, all with one guard. Returns how many came back.
 fn by_one_guard<L: Ledger, R: Wait>(rt: &R, map: &Map<L>, first: u64) -> Result<u64, PinError> {
     let mut guard = map.pin(rt)?;
     let mut back = 0u64;

@@ -67,7 +67,7 @@ pub record BreaksWithin (bytes more : List ℕ) (old new : Option (List ℕ)) : 
   pub parts : more ≡ front ++ back
   pub breaks : Breaks (bytes ++ front) old new
 
--- The same of a session and its streams: it has served the bytes, and what was written follows old_out.
+-- The session has served the bytes, and what was written to its output follows old_out.
 abbrev pub HasServed : {A W : Type 0} → (W → Option (List ℕ)) → Session A → Watched W
     → Option (List ℕ) → List ℕ → Type 0
 HasServed contents s output old_out bytes =

@@ -3,8 +3,8 @@ use Rattle.std.specs.Prelude.{ℕ, ◌<◌, ◌≤◌, ◌^◌, List, ◌∷◌,
 use Rattle.text_lines.specs.inner.Reading.{FitsU64, ReadsWords}
 use Rattle.text_lines.specs.inner.Words.{words_left}
 use Rattle.text_lines.specs.declared.words.Words.{Words}
-use Rattle.node_table.specs.TableNode.{Child}
-use Rattle.node_table.specs.declared.child.Child.TheVariants.{Payload, Node}
+use Rattle.spec_node.specs.TableNode.{Child}
+use Rattle.spec_node.specs.declared.child.Child.TheVariants.{Payload, Node}
 use Rattle.spec_olc.specs.declared.types.Op.{Op}
 use Rattle.spec_olc.specs.declared.types.Op.TheVariants.{Get, Insert, Remove, ComputeIfPresent, ComputeOrInsert, CompareExchange, Range}
 use Rattle.spec_text.specs.Entry.{words_of_entry, words_of_op, words_of_child}

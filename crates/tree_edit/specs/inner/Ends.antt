@@ -1,7 +1,7 @@
 -- The pair at a side of a list. Only private contracts cite this.
 use Rattle.std.specs.Prelude.{◌≡◌, ◌≤◌, ℕ, List, Option, Some}
 use Rattle.spec_map.specs.Near.{first_of, last_of}
-use Rattle.node_table.specs.Key.{Begins, next_byte}
+use Rattle.spec_node.specs.Key.{Begins, next_byte}
 use Rattle.tree_edit.specs.declared.ends.Side.{Side}
 use Rattle.tree_edit.specs.declared.ends.Side.TheVariants.{First, Last}
 use Rattle.tree_links.specs.LinkNode.{LinkNode}

@@ -1,7 +1,7 @@
 -- What an insertion of a new key does to a tree. Only private contracts cite this.
 use Rattle.std.specs.Prelude.{◌≡◌, ℕ, List, None}
 use Rattle.spec_map.specs.Map.{put}
-use Rattle.node_table.specs.Key.{key_number}
+use Rattle.spec_node.specs.Key.{key_number}
 use Rattle.node_table.specs.Shape.{Reshapes}
 use Rattle.node_table.specs.Table.{NodeTable}
 use Rattle.tree_path.specs.inner.Root.{HasTree, HasRoot, tree_pairs, tree_nodes, tree_payload}

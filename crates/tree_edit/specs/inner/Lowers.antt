@@ -1,10 +1,10 @@
 -- A leaf on a key's path, which may go back into its parent, and a removal at its leaf. Only private contracts cite this.
 use Rattle.std.specs.Prelude.{◌≡◌, ℕ, ◌<◌, ◌++◌, List, [], ◌∷◌, length, Some}
 use Rattle.spec_map.specs.Map.{lookup}
-use Rattle.node_table.specs.Key.{Begins, next_byte}
-use Rattle.node_table.specs.TableNode.{TableNode}
+use Rattle.spec_node.specs.Key.{Begins, next_byte}
+use Rattle.spec_node.specs.TableNode.{TableNode}
 use Rattle.node_table.specs.Table.{NodeTable, node_at}
-use Rattle.node_table.specs.declared.child.Child.TheVariants.{Node}
+use Rattle.spec_node.specs.declared.child.Child.TheVariants.{Node}
 use Rattle.tree_path.specs.inner.Descent.{IsOfOneKind, SeeksTo}
 use Rattle.tree_path.specs.inner.Root.{HasTree}
 use Rattle.tree_path.specs.declared.descent.Stop.TheVariants.{Leaf}

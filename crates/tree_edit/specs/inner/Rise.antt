@@ -2,9 +2,9 @@
 use Rattle.std.specs.Prelude.{◌≡◌, ◌≢◌, ℕ, suc, ◌+◌, ◌≤◌, List, [], ◌∷◌, ◌++◌, length, Some, ◌⊎◌, Bool, true, false}
 use Rattle.node_base.specs.Form.{few_in, smaller_form}
 use Rattle.spec_map.specs.Map.{lookup, without}
-use Rattle.node_table.specs.Key.{AreBytes, Begins, key_number, next_byte}
+use Rattle.spec_node.specs.Key.{AreBytes, Begins, key_number, next_byte}
 use Rattle.node_table.specs.Table.{NodeTable, NodeInfo, node_at, pairs_under, pairs_at, nodes_under, nodes_at, IsTree}
-use Rattle.node_table.specs.TableNode.{TableNode, Child}
+use Rattle.spec_node.specs.TableNode.{TableNode, Child}
 use Rattle.tree_path.specs.inner.Descent.{PathTo, IsTrail}
 use Rattle.tree_path.specs.inner.Root.{HasTree, HasRoot, tree_pairs, tree_nodes}
 use Rattle.tree_path.specs.declared.supply.FormCounts.{FormCounts}

@@ -2,9 +2,9 @@
 use Rattle.std.specs.Prelude.{◌≡◌, ℕ, ◌+◌, ◌<◌, ◌≤◌, Bool, List, length, Some, None}
 use Rattle.spec_map.specs.Map.{Pairs, lookup}
 use Rattle.tree_edit.specs.Calls.{Asking, HasNoneAfter}
-use Rattle.node_table.specs.Key.{AreBytes}
+use Rattle.spec_node.specs.Key.{AreBytes}
 use Rattle.node_table.specs.Table.{NodeTable, node_at}
-use Rattle.node_table.specs.TableNode.{TableNode}
+use Rattle.spec_node.specs.TableNode.{TableNode}
 use Rattle.tree_path.specs.inner.Descent.{IsTrail, SeeksTo}
 use Rattle.tree_path.specs.declared.supply.FormCounts.{FormCounts}
 use Rattle.tree_edit.specs.inner.Spots.{HasThere}

@@ -1,7 +1,7 @@
 -- Where a descent ended in a table of links: what `tree_edit` states of an end, by the end that is seen. Only private
 -- contracts cite this.
 use Rattle.std.specs.Prelude.{◌≡◌, ℕ, List, length, Option}
-use Rattle.node_table.specs.Key.{AreBytes}
+use Rattle.spec_node.specs.Key.{AreBytes}
 use Rattle.node_table.specs.Table.{NodeTable}
 use Rattle.tree_path.specs.inner.Descent.{SeeksTo}
 use Rattle.tree_path.specs.inner.Root.{HasRoot, tree_nodes}

@@ -1,9 +1,9 @@
 -- What removing a payload or a node does to the table.
 use Rattle.std.specs.Prelude.{◌≡◌, ◌≢◌, ℕ, List, Some, IsSome}
 use Rattle.spec_map.specs.Map.{lookup, without}
-use Rattle.node_table.specs.Key.{next_byte}
-use Rattle.node_table.specs.TableNode.{TableNode}
-use Rattle.node_table.specs.declared.child.Child.TheVariants.{Node}
+use Rattle.spec_node.specs.Key.{next_byte}
+use Rattle.spec_node.specs.TableNode.{TableNode}
+use Rattle.spec_node.specs.declared.child.Child.TheVariants.{Node}
 use Rattle.node_table.specs.Table.{NodeTable, node_at}
 use Rattle.tree_path.specs.declared.descent.Stop.{Stop}
 use Rattle.tree_path.specs.declared.descent.Stop.TheVariants as stops

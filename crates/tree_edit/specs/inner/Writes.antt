@@ -5,15 +5,15 @@ use Rattle.node_base.specs.Form.{Fits}
 use Rattle.node_table.specs.Shape.{grown_form}
 use Rattle.node_base.specs.declared.base_node.NodeType.TheVariants.{N4}
 use Rattle.spec_map.specs.Refusal.{IsFullOrAbsent}
-use Rattle.node_table.specs.Key.{IsFirstDifference}
-use Rattle.node_table.specs.TableNode.{TableNode, Child, MayHave}
+use Rattle.spec_node.specs.Key.{IsFirstDifference}
+use Rattle.spec_node.specs.TableNode.{TableNode, Child, MayHave}
 use Rattle.node_table.specs.Table.{NodeTable, node_at}
 use Rattle.tree_path.specs.inner.Descent.{Halts, IsOfOneKind}
 use Rattle.tree_path.specs.declared.descent.Stop.{Stop}
 use Rattle.tree_path.specs.declared.descent.Stop.TheVariants.{Differs, Absent, Leaf}
 use Rattle.tree_path.specs.inner.Supply.{with_form, CountsGrown}
 use Rattle.tree_path.specs.declared.supply.FormCounts.{FormCounts}
-use Rattle.node_table.specs.declared.child.Child.TheVariants.{Payload, Node}
+use Rattle.spec_node.specs.declared.child.Child.TheVariants.{Payload, Node}
 
 module _ {P : Type 0} where
   abbrev pub SameElsewhere : ℕ → NodeTable P → NodeTable P → Type 0

@@ -1,7 +1,7 @@
 -- A look at a node on a key's path.
 use Rattle.std.specs.Prelude.{◌≡◌, ℕ, ◌+◌, ◌<◌, List, length, drop, Some, None}
 use Rattle.spec_map.specs.Map.{lookup}
-use Rattle.node_table.specs.Key.{Begins, IsFirstDifference, next_byte}
+use Rattle.spec_node.specs.Key.{Begins, IsFirstDifference, next_byte}
 use Rattle.tree_links.specs.LinkNode.{LinkNode}
 use Rattle.tree_links.specs.declared.link.Link.TheVariants as links
 use Rattle.tree_links.specs.declared.descent.LinkStep.{LinkStep}

@@ -1,10 +1,10 @@
 -- How the path of a key descends in the table, and how it ends.
 use Rattle.std.specs.Prelude.{◌≡◌, ℕ, zero, suc, ◌+◌, ◌-◌, ◌<◌, ◌≤◌, List, [], ◌∷◌, ◌++◌, length, slice_index, Some, None}
 use Rattle.spec_map.specs.Map.{lookup}
-use Rattle.node_table.specs.Key.{Begins, IsFirstDifference, next_byte}
-use Rattle.node_table.specs.TableNode.{TableNode, Child, MayHave}
+use Rattle.spec_node.specs.Key.{Begins, IsFirstDifference, next_byte}
+use Rattle.spec_node.specs.TableNode.{TableNode, Child, MayHave}
 use Rattle.node_table.specs.Table.{NodeTable, node_at, IsTree}
-use Rattle.node_table.specs.declared.child.Child.TheVariants.{Payload, Node}
+use Rattle.spec_node.specs.declared.child.Child.TheVariants.{Payload, Node}
 use Rattle.tree_path.specs.declared.descent.Stop.{Stop}
 use Rattle.tree_path.specs.declared.descent.Stop.TheVariants as stops
 use Rattle.tree_path.specs.declared.descent.PathEnd.{PathEnd}

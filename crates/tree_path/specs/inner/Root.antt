@@ -2,9 +2,9 @@
 use Rattle.std.specs.Prelude.{◌≡◌, ℕ, List, [], Option, Some}
 use Rattle.node_base.specs.declared.base_node.NodeType.TheVariants.{N256}
 use Rattle.spec_map.specs.Map.{Pairs, lookup}
-use Rattle.node_table.specs.Key.{key_number}
+use Rattle.spec_node.specs.Key.{key_number}
 use Rattle.node_table.specs.Table.{NodeTable, NodeInfo, node_at, pairs_at, nodes_at, IsTree}
-use Rattle.node_table.specs.TableNode.{TableNode}
+use Rattle.spec_node.specs.TableNode.{TableNode}
 
 -- how many levels a tree has at most, named so that nothing counts it down
 unfoldable pub depth : ℕ

@@ -4,7 +4,7 @@ use Rattle.std.specs.Coded.{Coded, code_by, coded×, coded_ℕ}
 use Rattle.node_table.specs.Charge.{Charge}
 use Rattle.node_table.specs.Shape.{grown_form}
 use Rattle.node_table.specs.Table.{NodeTable, NodeInfo, node_at}
-use Rattle.node_table.specs.TableNode.{TableNode}
+use Rattle.spec_node.specs.TableNode.{TableNode}
 use Rattle.node_base.specs.declared.base_node.NodeType.{NodeType}
 use Rattle.node_base.specs.declared.base_node.NodeType.TheVariants.{N4, N16, N48, N256}
 use Rattle.tree_path.specs.Charge.{total, MovesAlike}

@@ -1,10 +1,10 @@
 -- What a range scan finds and writes.
 use Rattle.std.specs.Prelude.{◌≡◌, ℕ, suc, ◌+◌, ◌^◌, ◌<◌, ◌≤◌, List, [], ◌∷◌, ◌++◌, length, min, map, reverse, take, drop, Some}
 use Rattle.spec_map.specs.Map.{Pairs, between, Rises}
-use Rattle.node_table.specs.Key.{low, high}
+use Rattle.spec_node.specs.Key.{low, high}
 use Rattle.node_table.specs.Table.{NodeTable, node_at, pairs_of, pairs_at, IsSubtree}
 use Rattle.node_table.specs.inner.Kinds.{mapped}
-use Rattle.node_table.specs.declared.child.Child.TheVariants as children
+use Rattle.spec_node.specs.declared.child.Child.TheVariants as children
 use Rattle.tree_links.specs.LinkNode.{LinkNode}
 use Rattle.tree_links.specs.Places.{as_links}
 use Rattle.tree_links.specs.SeenTable.{name_of, name_under, pair_in, seen_links, seen_node}

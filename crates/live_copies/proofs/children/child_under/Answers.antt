@@ -6,9 +6,9 @@ use Rattle.live_copies.proofs.children.child_under.Goals as goal
 
 pub returns-in_err-child : goal.returns-in_err-child
 returns-in_err-child c =
-    let u = c.args.pass.now.view in
-    let v = c.name_under.new.pass.view in
-    let w = c.meet_some.new.pass.view in
+    let u = c.args.seat.now.view in
+    let v = c.name_under.new.seat.view in
+    let w = c.meet_some.new.seat.view in
     let s = c.name_under.ensures.told in
     let t = c.meet_some.ensures.told in
     let out : c.from_residual-in_err-child.result ≡ None = search rules in
@@ -16,9 +16,9 @@ returns-in_err-child c =
 
 pub returns : goal.returns
 returns c =
-    let u = c.args.pass.now.view in
-    let v = c.name_under.new.pass.view in
-    let w = c.meet_some.new.pass.view in
+    let u = c.args.seat.now.view in
+    let v = c.name_under.new.seat.view in
+    let w = c.meet_some.new.seat.view in
     let s = c.name_under.ensures.told in
     let t = c.in_ok-child.ensures.told in
     let child = c.in_ok-child.child in

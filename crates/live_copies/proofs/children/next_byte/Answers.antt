@@ -9,8 +9,8 @@ use Rattle.live_copies.proofs.children.next_byte.Goals as goal
 
 pub nearest-found-requires : goal.nearest-found-requires
 nearest-found-requires c =
-    let u = c.open.new.pass.view in
-    let b = c.open.new.pass.book in
+    let u = c.open.new.seat.view in
+    let b = c.open.new.seat.book in
     let words = c.in_ok-here.here.words.now in
     let t = c.in_ok-here.here.taken in
     let n = c.requires.sighted in
@@ -21,9 +21,9 @@ nearest-found-requires c =
 
 pub returns : goal.returns
 returns c =
-    let v = c.args.pass.now.view in
-    let u = c.open.new.pass.view in
-    let b = c.open.new.pass.book in
+    let v = c.args.seat.now.view in
+    let u = c.open.new.seat.view in
+    let b = c.open.new.seat.book in
     let words = c.in_ok-here.here.words.now in
     let t = c.in_ok-here.here.taken in
     let n = c.requires.sighted in

@@ -4,13 +4,13 @@ use Rattle.live_copies.proofs.Finding.{sights_on}
 use Rattle.live_copies.proofs.children.try_next.Goals as goal
 
 pub child_under-requires-clause-sighted : goal.child_under-requires-clause-sighted
-child_under-requires-clause-sighted c = sights_on c.args.pass.now.view c.next_byte.new.pass.view c.args.name c.next_byte.ensures.told.2 c.requires.sighted
+child_under-requires-clause-sighted c = sights_on c.args.seat.now.view c.next_byte.new.seat.view c.args.name c.next_byte.ensures.told.2 c.requires.sighted
 
 pub returns-in-Some-child_under : goal.returns-in-Some-child_under
 returns-in-Some-child_under c =
-    let u = c.args.pass.now.view in
-    let v = c.next_byte.new.pass.view in
-    let w = c.child_under.new.pass.view in
+    let u = c.args.seat.now.view in
+    let v = c.next_byte.new.seat.view in
+    let w = c.child_under.new.seat.view in
     let s = c.next_byte.ensures.told in
     let t = c.in-Some-child_under.ensures.told in
     let low : c.args.from ≤ c.in-Some.byte = search rules in
@@ -18,9 +18,9 @@ returns-in-Some-child_under c =
 
 pub returns-in-None-child_under : goal.returns-in-None-child_under
 returns-in-None-child_under c =
-    let u = c.args.pass.now.view in
-    let v = c.next_byte.new.pass.view in
-    let w = c.child_under.new.pass.view in
+    let u = c.args.seat.now.view in
+    let v = c.next_byte.new.seat.view in
+    let w = c.child_under.new.seat.view in
     let s = c.next_byte.ensures.told in
     let t = c.child_under.ensures.told in
     record { told = (t.0 ∙ s.0, t.1 ∙ s.1, keeps_then u v w s.2 t.2, t.3 ∙ s.3, tt) }

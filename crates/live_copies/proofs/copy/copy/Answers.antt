@@ -1,7 +1,7 @@
 use Rattle.std.proofs.Common.{rules, refl, ℕ, subst, ◌≡◌, ◌∙◌}
 use Rattle.live_law.specs.Known.{Known}
 use Rattle.live_growth.specs.Calls.{known_of}
-use Rattle.live_reads.specs.Ways.{Names}
+use Rattle.live_reads.specs.Paths.{Names}
 use Rattle.live_reads.proofs.Finds.{names_kept}
 use Rattle.live_growth.proofs.Ready.{ready_kept}
 use Rattle.live_scans.specs.Scans.{HasBegun}
@@ -10,37 +10,37 @@ use Rattle.live_scans.proofs.Pages.{begun_by, begun_on}
 use Rattle.live_copies.proofs.copy.copy.Goals as goal
 
 pub invariant_of-guard : goal.invariant_of-guard
-invariant_of-guard c = ready_kept c.guard.inside.pass.view c.start.new.pass.view c.guard.inside.room c.guard.invariant c.start.ensures.told.2
+invariant_of-guard c = ready_kept c.guard.inside.seat.view c.start.new.seat.view c.guard.inside.room c.guard.invariant c.start.ensures.told.2
 
 pub loop-init : goal.loop-init
 loop-init c =
-    let u = c.guard.inside.pass in
-    let v = c.start.new.pass in
+    let u = c.guard.inside.seat in
+    let v = c.start.new.seat in
     let s = c.in-Some.ensures.told in
     let first : known_of u.book u.id u.view ≡ c.args.guard.now = search rules in
     record {
       book = s.0 ∙ (search rules);
       begun = subst (λ (z : Known). HasBegun z (known_of v.book v.id v.view)) first (begun_by u.book v.book v.book u.id v.id v.id u.view v.view v.view s.0 s.1 refl refl s.3.0 (more_same v.id v.view.client.seen));
       ready = ready_kept u.view v.view c.guard.inside.room c.guard.invariant s.2;
-      root = subst (λ (z : ℕ × ℕ). Names v.view c.in-Some.stand.name z.0 z.1) (λ i. (s.3.1 i, s.3.2 i)) s.3.3.2;
+      root = subst (λ (z : ℕ × ℕ). Names v.view c.in-Some.position.name z.0 z.1) (λ i. (s.3.1 i, s.3.2 i)) s.3.3.2;
     }
 
 pub loop-preserved : goal.loop-preserved
 loop-preserved c =
     let i = c.loop.invariant in
     let k = c.args.guard.now in
-    let v = c.loop.guard-inside.pass in
-    let w = c.copy_once.new.pass in
+    let v = c.loop.guard-inside.seat in
+    let w = c.copy_once.new.seat in
     let t = c.copy_once.ensures.told in
     record {
       book = t.0 ∙ i.book;
       begun = begun_on k v.book w.book v.id w.id v.view w.view t.0 t.1 i.begun t.3;
       ready = ready_kept v.view w.view c.loop.guard-inside.room i.ready t.2;
-      root = names_kept v.view w.view c.in-Some.stand.name 0 8 t.2 i.root;
+      root = names_kept v.view w.view c.in-Some.position.name 0 8 t.2 i.root;
     }
 
 pub invariant_of-guard-in-Ok : goal.invariant_of-guard-in-Ok
-invariant_of-guard-in-Ok c = ready_kept c.loop.guard-inside.pass.view c.copy_once.new.pass.view c.loop.guard-inside.room c.loop.invariant.ready c.copy_once.ensures.told.2
+invariant_of-guard-in-Ok c = ready_kept c.loop.guard-inside.seat.view c.copy_once.new.seat.view c.loop.guard-inside.room c.loop.invariant.ready c.copy_once.ensures.told.2
 
 pub invariant_of-guard-in-Err-OutOfMemory : goal.invariant_of-guard-in-Err-OutOfMemory
-invariant_of-guard-in-Err-OutOfMemory c = ready_kept c.loop.guard-inside.pass.view c.copy_once.new.pass.view c.loop.guard-inside.room c.loop.invariant.ready c.copy_once.ensures.told.2
+invariant_of-guard-in-Err-OutOfMemory c = ready_kept c.loop.guard-inside.seat.view c.copy_once.new.seat.view c.loop.guard-inside.room c.loop.invariant.ready c.copy_once.ensures.told.2

@@ -6,12 +6,12 @@ use Rattle.live_copies.proofs.copy.copy_once.Goals as goal
 
 pub returns-in_err-taken : goal.returns-in_err-taken
 returns-in_err-taken c =
-    let v = c.args.pass.now.view in
-    let w = c.take_all-taken.new.pass.view in
-    let x = c.unlock_all.new.pass.view in
+    let v = c.args.seat.now.view in
+    let w = c.take_all-taken.new.seat.view in
+    let x = c.unlock_all.new.seat.view in
     let t = c.take_all-taken.ensures.told in
     let u = c.unlock_all.ensures.told in
-    let id = c.args.pass.now.id in
+    let id = c.args.seat.now.id in
     let out : c.from_residual.result ≡ Err c.in_err-taken.field-0.0 = search rules in
     record {
       told = (
@@ -25,12 +25,12 @@ returns-in_err-taken c =
 
 pub returns : goal.returns
 returns c =
-    let v = c.args.pass.now.view in
-    let w = c.take_all-taken.new.pass.view in
-    let x = c.unlock_all.new.pass.view in
+    let v = c.args.seat.now.view in
+    let w = c.take_all-taken.new.seat.view in
+    let x = c.unlock_all.new.seat.view in
     let t = c.in_ok-taken.ensures.told in
     let u = c.unlock_all.ensures.told in
-    let id = c.args.pass.now.id in
+    let id = c.args.seat.now.id in
     record {
       told = (
         u.0 ∙ t.0,

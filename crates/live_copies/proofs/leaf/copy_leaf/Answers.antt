@@ -9,8 +9,8 @@ use Rattle.live_copies.proofs.leaf.copy_leaf.Goals as goal
 pub fill-filled-requires-clause-cells : goal.fill-filled-requires-clause-cells
 fill-filled-requires-clause-cells c =
     let t = c.requires.taken in
-    let w = c.args.pass.now.view in
-    let b = c.args.pass.now.book in
+    let w = c.args.seat.now.view in
+    let b = c.args.seat.now.book in
     let form = c.form_below-form.ensures t.spot.shape.key t.spot.shape.form t.named in
     let draft = taken_draft w b c.args.name c.args.key 1 c.args.words.now t in
     let long = ap (λ (l : List ℕ). length l) draft ∙ (t.long ∙ (sym (ap words_of form) ∙ sym c.words_in.ensures)) in
@@ -19,8 +19,8 @@ fill-filled-requires-clause-cells c =
 pub returns-clause-copied : goal.returns-clause-copied
 returns-clause-copied c =
     let t = c.requires.taken in
-    let w = c.args.pass.now.view in
-    let b = c.args.pass.now.book in
+    let w = c.args.seat.now.view in
+    let b = c.args.seat.now.book in
     let form = c.form_below-form.ensures t.spot.shape.key t.spot.shape.form t.named in
     let draft = taken_draft w b c.args.name c.args.key 1 c.args.words.now t in
     let same = c.fill-filled.ensures.seat.others in

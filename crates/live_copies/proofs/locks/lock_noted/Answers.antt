@@ -1,5 +1,5 @@
 use Rattle.std.proofs.Common.{rules, subst, sym, refl, [], ◌∷◌, ◌++◌, ◌≡◌, ◌∙◌}
-use Rattle.live_reads.specs.Ways.{AreNamed}
+use Rattle.live_reads.specs.Paths.{AreNamed}
 use Rattle.live_copies.specs.declared.locks.Lock.{Lock}
 use Rattle.live_copies.specs.inner.Locks.{HasLocks}
 use Rattle.live_copies.proofs.Locking.{locks_top, locks_more, locked_grows, locked_taken}
@@ -7,10 +7,10 @@ use Rattle.live_copies.proofs.locks.lock_noted.Goals as goal
 
 pub returns : goal.returns
 returns c =
-    let v = c.args.pass.now.view in
-    let w = c.lock_patiently.new.pass.view in
-    let b = c.args.pass.now.book in
-    let b' = c.lock_patiently.new.pass.book in
+    let v = c.args.seat.now.view in
+    let w = c.lock_patiently.new.seat.view in
+    let b = c.args.seat.now.book in
+    let b' = c.lock_patiently.new.seat.book in
     let t = c.in-Some-lock_patiently.ensures.told in
     let name = c.args.name in
     let key = c.args.key in

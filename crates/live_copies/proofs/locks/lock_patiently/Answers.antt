@@ -4,9 +4,9 @@ use Rattle.live_copies.proofs.locks.lock_patiently.Goals as goal
 
 pub returns-in-Some : goal.returns-in-Some
 returns-in-Some c =
-    let u = c.args.pass.now.view in
-    let v = c.loop.pass.view in
-    let w = c.lock_node.new.pass.view in
+    let u = c.args.seat.now.view in
+    let v = c.loop.seat.view in
+    let w = c.lock_node.new.seat.view in
     let i = c.loop.invariant in
     let t = c.in-Some.ensures.told in
     record { told = (t.0 ∙ i.book, t.1 ∙ i.id, locked_since u v w c.args.name c.args.key c.args.height c.in-Some.free i.alike i.client i.holds t.2, tt) }

@@ -4,9 +4,9 @@ use Rattle.live_copies.proofs.locks.lock_patiently.Given as goal
 
 abbrev pub invariant-loop : goal.invariant-loop
 invariant-loop l = record {
-  book : l.pass.book ≡ l.fn.pass.book;
-  id : l.pass.id ≡ l.fn.pass.id;
-  alike : Alike l.fn.pass.view l.pass.view;
-  client : l.pass.view.client ≡ l.fn.pass.view.client;
-  holds : l.pass.view.holds ≡ l.fn.pass.view.holds;
+  book : l.seat.book ≡ l.fn.seat.book;
+  id : l.seat.id ≡ l.fn.seat.id;
+  alike : Alike l.fn.seat.view l.seat.view;
+  client : l.seat.view.client ≡ l.fn.seat.view.client;
+  holds : l.seat.view.holds ≡ l.fn.seat.view.holds;
 }

@@ -5,11 +5,11 @@ use Rattle.live_copies.proofs.locks.unlock_all.Given as goal
 
 abbrev pub invariant-loop-words : goal.invariant-loop-words
 invariant-loop-words l = record {
-  book : l.pass.book ≡ l.fn.pass.book;
-  id : l.pass.id ≡ l.fn.pass.id;
-  alike : Alike l.fn.pass.view l.pass.view;
-  seen : l.pass.view.client.seen ≡ l.fn.pass.view.client.seen;
-  locks : HasLocks l.pass.view l.pass.book l.locks.items;
+  book : l.seat.book ≡ l.fn.seat.book;
+  id : l.seat.id ≡ l.fn.seat.id;
+  alike : Alike l.fn.seat.view l.seat.view;
+  seen : l.seat.view.client.seen ≡ l.fn.seat.view.client.seen;
+  locks : HasLocks l.seat.view l.seat.book l.locks.items;
 }
 
 abbrev pub decreases-loop-words : goal.decreases-loop-words

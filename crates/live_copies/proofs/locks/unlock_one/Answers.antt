@@ -12,21 +12,21 @@ use Rattle.live_copies.proofs.locks.unlock_one.Goals as goal
 
 pub unlock-requires-clause-frees : goal.unlock-requires-clause-frees
 unlock-requires-clause-frees c =
-    let v = c.args.pass.now.view in
+    let v = c.args.seat.now.view in
     let words = c.args.words.now in
-    let b = c.args.pass.now.book in
+    let b = c.args.seat.now.book in
     let free = c.args.free in
     let t = c.requires.top.1 in
     let first = c.index-words-0.result in
     let at_k = (first_word (place_at t.spot) b words t.is.are first first (sym c.index-words-0.is)).0 in
     let even = c.requires.word.0 in
-    first_frees v t.spot free t.content (holds_of t.grips) t.holds t.is.placed first.key at_k StaysSame c.args.pass.now.id (free + 4) (node_stays c.args.pass.now.id v.client t.spot t.content (own_of t.grips) t.own t.is.apart (free + 4) (free / 4 + 1) (omega (arith, even)) t.content refl)
+    first_frees v t.spot free t.content (holds_of t.grips) t.holds t.is.placed first.key at_k StaysSame c.args.seat.now.id (free + 4) (node_stays c.args.seat.now.id v.client t.spot t.content (own_of t.grips) t.own t.is.apart (free + 4) (free / 4 + 1) (omega (arith, even)) t.content refl)
 
 pub returns : goal.returns
 returns c =
-    let v = c.args.pass.now.view in
+    let v = c.args.seat.now.view in
     let words = c.args.words.now in
-    let b = c.args.pass.now.book in
+    let b = c.args.seat.now.book in
     let free = c.args.free in
     let t = c.requires.top.1 in
     let first = c.index-words-0.result in

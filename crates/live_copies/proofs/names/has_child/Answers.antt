@@ -6,7 +6,7 @@ use Rattle.live_copies.proofs.names.has_child.Goals as goal
 
 pub returns-then-name-ne0-clause-is : goal.returns-then-name-ne0-clause-is
 returns-then-name-ne0-clause-is g c = λ yes n encodes formed few.
-    let words = g.D.Draft.words c.args.draft.now in
+    let words = g.D.WriteWords.words c.args.draft.now in
     let same = ap words c.find.ensures.seat.others in
     let found : c.find.result ≡ Some c.in-Some.word = search rules in
     let is_name : c.slot_below.result ≡ c.args.name = search rules in
@@ -14,7 +14,7 @@ returns-then-name-ne0-clause-is g c = λ yes n encodes formed few.
 
 pub returns-in-None-clause-is : goal.returns-in-None-clause-is
 returns-in-None-clause-is g c = λ yes n encodes formed few.
-    let words = g.D.Draft.words c.args.draft.now in
+    let words = g.D.WriteWords.words c.args.draft.now in
     let same = ap words c.find.ensures.seat.others in
     let found : c.find.result ≡ None = search rules in
     let zero_is : c.args.name ≡ 0 = search rules in

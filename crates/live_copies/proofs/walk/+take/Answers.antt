@@ -13,7 +13,7 @@ use Rattle.live_copies.proofs.walk.+take.Goals as goal
 
 pub loop-from-init : goal.loop-from-init
 loop-from-init m c =
-    let v = c.args.pass.now.view in
+    let v = c.args.seat.now.view in
     record {
       book = refl;
       id = refl;
@@ -25,24 +25,24 @@ loop-from-init m c =
 
 pub next_child-requires-clause-sighted : goal.next_child-requires-clause-sighted
 next_child-requires-clause-sighted m c =
-    let u = c.args.pass.now.view in
-    let v = c.loop-from.pass.view in
+    let u = c.args.seat.now.view in
+    let v = c.loop-from.seat.view in
     sights_names v c.args.name c.args.key c.args.height (names_grown u v c.args.name c.args.key c.args.height c.loop-from.invariant.grows c.requires.named)
 
 pub returns-in_default : goal.returns-in_default
 returns-in_default m c =
-    let u = c.args.pass.now.view in
+    let u = c.args.seat.now.view in
     let i = c.loop-from.invariant in
-    let v = c.loop-from.pass.view in
-    let w = c.next_child.new.pass.view in
+    let v = c.loop-from.seat.view in
+    let w = c.next_child.new.seat.view in
     let n = c.next_child.ensures.told in
-    record { told = (n.0 ∙ i.book, n.1 ∙ i.id, grows_then u v w i.grows (keeps_grows v w n.2 n.3), locks_keep v w c.loop-from.pass.book c.next_child.new.pass.book c.loop-from.work.locks.items n.2 n.0 i.locks, tt) }
+    record { told = (n.0 ∙ i.book, n.1 ∙ i.id, grows_then u v w i.grows (keeps_grows v w n.2 n.3), locks_keep v w c.loop-from.seat.book c.next_child.new.seat.book c.loop-from.work.locks.items n.2 n.0 i.locks, tt) }
 
 pub take-requires : goal.take-requires
 take-requires m c =
     let i = c.loop-from.invariant in
-    let v = c.loop-from.pass.view in
-    let w = c.next_child.new.pass.view in
+    let v = c.loop-from.seat.view in
+    let w = c.next_child.new.seat.view in
     let n = c.next_child.ensures.told in
     let child = c.in-Some-found.child in
     let found : c.next_child.result ≡ Some (Some child) = search rules in
@@ -50,29 +50,29 @@ take-requires m c =
     let lower = is.0.lower in
     let high = c.requires.height.1 in
     let measure = c.decreases in
-    (omega (arith, lower, measure), (n.0 ∙ (i.book ∙ c.requires.book), (is.0.names, ((is.0.low, omega (arith, lower, high)), locks_keep v w c.loop-from.pass.book c.next_child.new.pass.book c.loop-from.work.locks.items n.2 n.0 i.locks))))
+    (omega (arith, lower, measure), (n.0 ∙ (i.book ∙ c.requires.book), (is.0.names, ((is.0.low, omega (arith, lower, high)), locks_keep v w c.loop-from.seat.book c.next_child.new.seat.book c.loop-from.work.locks.items n.2 n.0 i.locks))))
 
 pub returns-in_err-take-in-Some-found : goal.returns-in_err-take-in-Some-found
 returns-in_err-take-in-Some-found m c =
-    let u = c.args.pass.now.view in
+    let u = c.args.seat.now.view in
     let i = c.loop-from.invariant in
-    let v = c.loop-from.pass.view in
-    let w = c.next_child.new.pass.view in
-    let x = c.take.new.pass.view in
+    let v = c.loop-from.seat.view in
+    let w = c.next_child.new.seat.view in
+    let x = c.take.new.seat.view in
     let n = c.next_child.ensures.told in
     let t = c.take.ensures.told in
     let out : IfOk c.from_residual.result (λ _. Takes x c.args.name c.args.key c.args.height c.args.work.now.pairs.items c.take.new.work.pairs.items) = search rules in
     record { told = (t.0 ∙ (n.0 ∙ i.book), t.1 ∙ (n.1 ∙ i.id), grows_then u w x (grows_then u v w i.grows (keeps_grows v w n.2 n.3)) t.2, t.3, out) }
 
 pub close-requires-clause-named : goal.close-requires-clause-named
-close-requires-clause-named m c = names_grown c.args.pass.now.view c.loop-from.pass.view c.args.name c.args.key c.args.height c.loop-from.invariant.grows c.requires.named
+close-requires-clause-named m c = names_grown c.args.seat.now.view c.loop-from.seat.view c.args.name c.args.key c.args.height c.loop-from.invariant.grows c.requires.named
 
 pub returns : goal.returns
 returns m c =
-    let u = c.args.pass.now.view in
+    let u = c.args.seat.now.view in
     let i = c.loop-from.invariant in
-    let v = c.loop-from.pass.view in
-    let x = c.close.new.pass.view in
+    let v = c.loop-from.seat.view in
+    let x = c.close.new.seat.view in
     let name = c.args.name in
     let key = c.args.key in
     let height = c.args.height in
@@ -93,10 +93,10 @@ returns m c =
 
 pub loop-from-preserved-in-None : goal.loop-from-preserved-in-None
 loop-from-preserved-in-None m c =
-    let u = c.args.pass.now.view in
+    let u = c.args.seat.now.view in
     let i = c.loop-from.invariant in
-    let v = c.loop-from.pass.view in
-    let w = c.next_child.new.pass.view in
+    let v = c.loop-from.seat.view in
+    let w = c.next_child.new.seat.view in
     let n = c.next_child.ensures.told in
     let key = c.args.key in
     let height = c.args.height in
@@ -105,18 +105,18 @@ loop-from-preserved-in-None m c =
       book = n.0 ∙ i.book;
       id = n.1 ∙ i.id;
       grows = grows_then u v w i.grows (keeps_grows v w n.2 n.3);
-      locks = locks_keep v w c.loop-from.pass.book c.next_child.new.pass.book c.loop-from.work.locks.items n.2 n.0 i.locks;
+      locks = locks_keep v w c.loop-from.seat.book c.next_child.new.seat.book c.loop-from.work.locks.items n.2 n.0 i.locks;
       few = omega arith;
       copied = (i.copied.0, i.copied.1, noted_end w.client.own key height c.loop-from.from c.loop-from.names i.copied.0 i.few own);
     }
 
 pub loop-from-preserved : goal.loop-from-preserved
 loop-from-preserved m c =
-    let u = c.args.pass.now.view in
+    let u = c.args.seat.now.view in
     let i = c.loop-from.invariant in
-    let v = c.loop-from.pass.view in
-    let w = c.next_child.new.pass.view in
-    let x = c.take.new.pass.view in
+    let v = c.loop-from.seat.view in
+    let w = c.next_child.new.seat.view in
+    let x = c.take.new.seat.view in
     let n = c.next_child.ensures.told in
     let t = c.in_ok-take-in-Some-found.ensures.told in
     let key = c.args.key in

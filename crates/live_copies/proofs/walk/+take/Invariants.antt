@@ -6,12 +6,12 @@ use Rattle.live_copies.proofs.walk.+take.Given as goal
 
 abbrev pub invariant-loop-from : goal.invariant-loop-from
 invariant-loop-from l = record {
-  book : l.pass.book ≡ l.fn.pass.book;
-  id : l.pass.id ≡ l.fn.pass.id;
-  grows : Grows l.fn.pass.view l.pass.view;
-  locks : HasLocks l.pass.view l.pass.book l.work.locks.items;
+  book : l.seat.book ≡ l.fn.seat.book;
+  id : l.seat.id ≡ l.fn.seat.id;
+  grows : Grows l.fn.seat.view l.seat.view;
+  locks : HasLocks l.seat.view l.seat.book l.work.locks.items;
   few : l.from ≤ 256;
-  copied : (pairs : Pairs ℕ) × (l.work.pairs.items ≡ l.fn.work.pairs.items ++ pairs) × HasNoted l.pass.view.client.own (place_above l.key l.height) l.from l.names pairs;
+  copied : (pairs : Pairs ℕ) × (l.work.pairs.items ≡ l.fn.work.pairs.items ++ pairs) × HasNoted l.seat.view.client.own (place_above l.key l.height) l.from l.names pairs;
 }
 
 abbrev pub decreases-loop-from : goal.decreases-loop-from

@@ -1,6 +1,6 @@
 use Rattle.std.proofs.Common.{arith, sym, ap, subst, length, ℕ, Some, List, [], ◌≡◌, ◌+◌, ◌/◌, ◌∙◌}
-use Rattle.node_table.specs.TableNode.{TableNode}
-use Rattle.node_table.specs.declared.child.Child.TheVariants.{Node}
+use Rattle.spec_node.specs.TableNode.{TableNode}
+use Rattle.spec_node.specs.declared.child.Child.TheVariants.{Node}
 use Rattle.spec_map.specs.Map.{lookup}
 use Rattle.live_nodes.specs.Seats.{SeatView, Place, IsIn}
 use Rattle.live_nodes.specs.Rows.{AreOf, draft_of, nth}
@@ -19,8 +19,8 @@ use Rattle.live_detach.proofs.detach.part.Goals as goal
 
 pub take-requires-clause-may : goal.take-requires-clause-may
 take-requires-clause-may c =
-    let v = c.args.pass.now.view in
-    let b = c.args.pass.now.book in
+    let v = c.args.seat.now.view in
+    let b = c.args.seat.now.book in
     let words = c.args.words.now in
     let words_p = c.args.words_above.now in
     let free = c.args.two.free in
@@ -32,13 +32,13 @@ take-requires-clause-may c =
     let p = h.above in
     let form = c.form_below-form.ensures p.shape.key p.shape.form l.named_above in
     let pair = as_pair v b words words_p free free_p h in
-    let was = second_draft v b words words_p free free_p x p h.content h.content_above pair in
-    pair_second v b words words_p free free_p x p h.content h.content_above pair h.held_above.long
+    let was = second_draft v b words words_p free free_p x (place_at p) h.content h.content_above pair in
+    pair_second v b words words_p free free_p x (place_at p) h.content h.content_above pair h.held_above.long
 
 pub take-requires-clause-long : goal.take-requires-clause-long
 take-requires-clause-long c =
-    let v = c.args.pass.now.view in
-    let b = c.args.pass.now.book in
+    let v = c.args.seat.now.view in
+    let b = c.args.seat.now.book in
     let words = c.args.words.now in
     let words_p = c.args.words_above.now in
     let free = c.args.two.free in
@@ -50,13 +50,13 @@ take-requires-clause-long c =
     let p = h.above in
     let form = c.form_below-form.ensures p.shape.key p.shape.form l.named_above in
     let pair = as_pair v b words words_p free free_p h in
-    let was = second_draft v b words words_p free free_p x p h.content h.content_above pair in
+    let was = second_draft v b words words_p free free_p x (place_at p) h.content h.content_above pair in
     ap (λ (t : List ℕ). length t) was ∙ (h.held_above.long ∙ ap words_of (sym form))
 
 pub take-requires-clause-few : goal.take-requires-clause-few
 take-requires-clause-few c =
-    let v = c.args.pass.now.view in
-    let b = c.args.pass.now.book in
+    let v = c.args.seat.now.view in
+    let b = c.args.seat.now.book in
     let words = c.args.words.now in
     let words_p = c.args.words_above.now in
     let free = c.args.two.free in
@@ -68,13 +68,13 @@ take-requires-clause-few c =
     let p = h.above in
     let form = c.form_below-form.ensures p.shape.key p.shape.form l.named_above in
     let pair = as_pair v b words words_p free free_p h in
-    let was = second_draft v b words words_p free free_p x p h.content h.content_above pair in
+    let was = second_draft v b words words_p free free_p x (place_at p) h.content h.content_above pair in
     subst (IsCounted c.form_below-form.result) (sym was) (few_counted c.form_below-form.result h.content_above h.held_above.its h.held_above.encodes (h.held_above.in_form ∙ sym form))
 
 pub unlock-requires-clause-frees : goal.unlock-requires-clause-frees
 unlock-requires-clause-frees c =
-    let v = c.args.pass.now.view in
-    let b = c.args.pass.now.book in
+    let v = c.args.seat.now.view in
+    let b = c.args.seat.now.book in
     let words = c.args.words.now in
     let words_p = c.args.words_above.now in
     let free = c.args.two.free in
@@ -86,19 +86,19 @@ unlock-requires-clause-frees c =
     let p = h.above in
     let form = c.form_below-form.ensures p.shape.key p.shape.form l.named_above in
     let pair = as_pair v b words words_p free free_p h in
-    let was = second_draft v b words words_p free free_p x p h.content h.content_above pair in
+    let was = second_draft v b words words_p free free_p x (place_at p) h.content h.content_above pair in
     let n = c.take.new.seat.view in
     let nb = c.take.new.seat.book in
     let r = c.take.ensures.seat.others in
-    let pair_n = pair_wrote v b words words_p free free_p x p h.content h.content_above pair n nb (ap (λ s. s.book) r) (ap (λ s. s.view) r) in
+    let pair_n = pair_wrote v b words words_p free free_p x (place_at p) h.content h.content_above pair n nb (ap (λ s. s.book) r) (ap (λ s. s.view) r) in
     let same = c.fill_of-left.ensures.seat.same in
     let z = c.fill_of-left.new.seat.view in
     let zb = c.fill_of-left.new.seat.book in
-    let pair_z = subst (λ s. Pair s.view s.book words words_p free free_p x p h.content (draft_of (nth 1 s.view.holds))) (sym same) pair_n in
+    let pair_z = subst (λ s. Pair s.view s.book words words_p free free_p x (place_at p) h.content (draft_of (nth 1 s.view.holds))) (sym same) pair_n in
     let d = draft_of (nth 1 z.holds) in
     let z_client = ap (λ s. s.view.client) same ∙ ap (λ (t : SeatView View). t.client) (ap (λ s. s.view) r) in
     let own_z = ap (λ (t : View). t.own) z_client ∙ h.own in
-    let lost_n = loses c.take.result h.content_above (draft_of (nth 1 v.holds)) was (draft_of (nth 1 n.holds)) c.form_below-form.result p form c.byte_at.result key c.args.stand.level c.byte_at.ensures l.high_above l.leads.0 l.leads.1 h.held_above.its h.held_above.encodes h.held_above.in_form c.take.ensures.was c.take.ensures.is in
+    let lost_n = loses c.take.result h.content_above (draft_of (nth 1 v.holds)) was (draft_of (nth 1 n.holds)) c.form_below-form.result p form c.byte_at.result key c.args.position.level c.byte_at.ensures l.high_above l.leads.0 l.leads.1 h.held_above.its h.held_above.encodes h.held_above.in_form c.take.ensures.was c.take.ensures.is in
     let lost = subst (λ s. Loses p h.content_above (draft_of (nth 1 s.view.holds)) key) (sym same) lost_n in
     let long = subst (λ s. length (draft_of (nth 1 s.view.holds)) ≡ words_of p.shape.form) (sym same) (c.take.ensures.long ∙ ap words_of form) in
     let named = λ (k : TableNode ℕ) (encodes : Encodes h.content_above k) (formed : k.form ≡ p.shape.form). subst (λ (t : ℕ). IsBelow (lookup k.children (digit t key)) (Some l.leads.0)) (sym l.high_above) (l.leads.1 k encodes formed) in
@@ -110,12 +110,12 @@ unlock-requires-clause-frees c =
     let high_p = l.high_above in
     let even_p = h.held_above.even in
     let frees = unlink c.fill_of-left.new.seat.id z.client key x p h.content h.content_above own_z (free_p + 4) (free_p / 4 + 1) (omega (arith, even_p)) d (omega (arith, ht, high_x, high_p)) (omega (arith, ht, high_x)) long lost l.leads.0 named spells c.requires.parts.none in
-    pair_frees z zb words words_p free free_p x p h.content d pair_z first.key at_p Unlinks c.fill_of-left.new.seat.id (free_p + 4) frees
+    pair_frees z zb words words_p free free_p x (place_at p) h.content d pair_z first.key at_p Unlinks c.fill_of-left.new.seat.id (free_p + 4) frees
 
 pub retire-requires-clause-frees : goal.retire-requires-clause-frees
 retire-requires-clause-frees c =
-    let v = c.args.pass.now.view in
-    let b = c.args.pass.now.book in
+    let v = c.args.seat.now.view in
+    let b = c.args.seat.now.book in
     let words = c.args.words.now in
     let words_p = c.args.words_above.now in
     let free = c.args.two.free in
@@ -127,19 +127,19 @@ retire-requires-clause-frees c =
     let p = h.above in
     let form = c.form_below-form.ensures p.shape.key p.shape.form l.named_above in
     let pair = as_pair v b words words_p free free_p h in
-    let was = second_draft v b words words_p free free_p x p h.content h.content_above pair in
+    let was = second_draft v b words words_p free free_p x (place_at p) h.content h.content_above pair in
     let n = c.take.new.seat.view in
     let nb = c.take.new.seat.book in
     let r = c.take.ensures.seat.others in
-    let pair_n = pair_wrote v b words words_p free free_p x p h.content h.content_above pair n nb (ap (λ s. s.book) r) (ap (λ s. s.view) r) in
+    let pair_n = pair_wrote v b words words_p free free_p x (place_at p) h.content h.content_above pair n nb (ap (λ s. s.book) r) (ap (λ s. s.view) r) in
     let same = c.fill_of-left.ensures.seat.same in
     let z = c.fill_of-left.new.seat.view in
     let zb = c.fill_of-left.new.seat.book in
-    let pair_z = subst (λ s. Pair s.view s.book words words_p free free_p x p h.content (draft_of (nth 1 s.view.holds))) (sym same) pair_n in
+    let pair_z = subst (λ s. Pair s.view s.book words words_p free free_p x (place_at p) h.content (draft_of (nth 1 s.view.holds))) (sym same) pair_n in
     let d = draft_of (nth 1 z.holds) in
     let z_client = ap (λ s. s.view.client) same ∙ ap (λ (t : SeatView View). t.client) (ap (λ s. s.view) r) in
     let own_z = ap (λ (t : View). t.own) z_client ∙ h.own in
-    let lost_n = loses c.take.result h.content_above (draft_of (nth 1 v.holds)) was (draft_of (nth 1 n.holds)) c.form_below-form.result p form c.byte_at.result key c.args.stand.level c.byte_at.ensures l.high_above l.leads.0 l.leads.1 h.held_above.its h.held_above.encodes h.held_above.in_form c.take.ensures.was c.take.ensures.is in
+    let lost_n = loses c.take.result h.content_above (draft_of (nth 1 v.holds)) was (draft_of (nth 1 n.holds)) c.form_below-form.result p form c.byte_at.result key c.args.position.level c.byte_at.ensures l.high_above l.leads.0 l.leads.1 h.held_above.its h.held_above.encodes h.held_above.in_form c.take.ensures.was c.take.ensures.is in
     let lost = subst (λ s. Loses p h.content_above (draft_of (nth 1 s.view.holds)) key) (sym same) lost_n in
     let long = subst (λ s. length (draft_of (nth 1 s.view.holds)) ≡ words_of p.shape.form) (sym same) (c.take.ensures.long ∙ ap words_of form) in
     let named = λ (k : TableNode ℕ) (encodes : Encodes h.content_above k) (formed : k.form ≡ p.shape.form). subst (λ (t : ℕ). IsBelow (lookup k.children (digit t key)) (Some l.leads.0)) (sym l.high_above) (l.leads.1 k encodes formed) in
@@ -154,7 +154,7 @@ retire-requires-clause-frees c =
     let u = c.unlock.new.seat.view in
     let ub = c.unlock.new.seat.book in
     let us = c.unlock.ensures.seat in
-    let f = pair_freed z zb words words_p free free_p x p h.content d pair_z first.key at_p Unlinks u (free_p + 4) c.unlock.ensures.told in
+    let f = pair_freed z zb words words_p free free_p x (place_at p) h.content d pair_z first.key at_p Unlinks u (free_p + 4) c.unlock.ensures.told in
     let grip : Grips u ub words free (place_at x) h.content = record {
       holds = ap (λ (t : SeatView View). t.holds) f.1;
       placed = subst (λ (ps : List Place). IsIn (place_at x) ps) (sym (ap (λ (t : SeatView View). t.places) f.1)) pair_z.placed_x;
@@ -169,8 +169,8 @@ retire-requires-clause-frees c =
 
 pub returns : goal.returns
 returns c =
-    let v = c.args.pass.now.view in
-    let b = c.args.pass.now.book in
+    let v = c.args.seat.now.view in
+    let b = c.args.seat.now.book in
     let words = c.args.words.now in
     let words_p = c.args.words_above.now in
     let free = c.args.two.free in
@@ -182,19 +182,19 @@ returns c =
     let p = h.above in
     let form = c.form_below-form.ensures p.shape.key p.shape.form l.named_above in
     let pair = as_pair v b words words_p free free_p h in
-    let was = second_draft v b words words_p free free_p x p h.content h.content_above pair in
+    let was = second_draft v b words words_p free free_p x (place_at p) h.content h.content_above pair in
     let n = c.take.new.seat.view in
     let nb = c.take.new.seat.book in
     let r = c.take.ensures.seat.others in
-    let pair_n = pair_wrote v b words words_p free free_p x p h.content h.content_above pair n nb (ap (λ s. s.book) r) (ap (λ s. s.view) r) in
+    let pair_n = pair_wrote v b words words_p free free_p x (place_at p) h.content h.content_above pair n nb (ap (λ s. s.book) r) (ap (λ s. s.view) r) in
     let same = c.fill_of-left.ensures.seat.same in
     let z = c.fill_of-left.new.seat.view in
     let zb = c.fill_of-left.new.seat.book in
-    let pair_z = subst (λ s. Pair s.view s.book words words_p free free_p x p h.content (draft_of (nth 1 s.view.holds))) (sym same) pair_n in
+    let pair_z = subst (λ s. Pair s.view s.book words words_p free free_p x (place_at p) h.content (draft_of (nth 1 s.view.holds))) (sym same) pair_n in
     let d = draft_of (nth 1 z.holds) in
     let z_client = ap (λ s. s.view.client) same ∙ ap (λ (t : SeatView View). t.client) (ap (λ s. s.view) r) in
     let own_z = ap (λ (t : View). t.own) z_client ∙ h.own in
-    let lost_n = loses c.take.result h.content_above (draft_of (nth 1 v.holds)) was (draft_of (nth 1 n.holds)) c.form_below-form.result p form c.byte_at.result key c.args.stand.level c.byte_at.ensures l.high_above l.leads.0 l.leads.1 h.held_above.its h.held_above.encodes h.held_above.in_form c.take.ensures.was c.take.ensures.is in
+    let lost_n = loses c.take.result h.content_above (draft_of (nth 1 v.holds)) was (draft_of (nth 1 n.holds)) c.form_below-form.result p form c.byte_at.result key c.args.position.level c.byte_at.ensures l.high_above l.leads.0 l.leads.1 h.held_above.its h.held_above.encodes h.held_above.in_form c.take.ensures.was c.take.ensures.is in
     let lost = subst (λ s. Loses p h.content_above (draft_of (nth 1 s.view.holds)) key) (sym same) lost_n in
     let long = subst (λ s. length (draft_of (nth 1 s.view.holds)) ≡ words_of p.shape.form) (sym same) (c.take.ensures.long ∙ ap words_of form) in
     let named = λ (k : TableNode ℕ) (encodes : Encodes h.content_above k) (formed : k.form ≡ p.shape.form). subst (λ (t : ℕ). IsBelow (lookup k.children (digit t key)) (Some l.leads.0)) (sym l.high_above) (l.leads.1 k encodes formed) in
@@ -209,7 +209,7 @@ returns c =
     let u = c.unlock.new.seat.view in
     let ub = c.unlock.new.seat.book in
     let us = c.unlock.ensures.seat in
-    let f = pair_freed z zb words words_p free free_p x p h.content d pair_z first.key at_p Unlinks u (free_p + 4) c.unlock.ensures.told in
+    let f = pair_freed z zb words words_p free free_p x (place_at p) h.content d pair_z first.key at_p Unlinks u (free_p + 4) c.unlock.ensures.told in
     let grip : Grips u ub words free (place_at x) h.content = record {
       holds = ap (λ (t : SeatView View). t.holds) f.1;
       placed = subst (λ (ps : List Place). IsIn (place_at x) ps) (sym (ap (λ (t : SeatView View). t.places) f.1)) pair_z.placed_x;

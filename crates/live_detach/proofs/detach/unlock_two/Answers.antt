@@ -11,20 +11,20 @@ use Rattle.live_detach.proofs.detach.unlock_two.Goals as goal
 
 pub unlock-requires-clause-frees : goal.unlock-requires-clause-frees
 unlock-requires-clause-frees c =
-    let v = c.args.pass.now.view in
-    let b = c.args.pass.now.book in
+    let v = c.args.seat.now.view in
+    let b = c.args.seat.now.book in
     let words = c.args.words.now in
     let h = c.requires.holds in
     let free = c.args.two.free in
     let first = c.index-words-0.result in
     let at_x = (first_word (place_at h.below) b words h.held.are first first (sym c.index-words-0.is)).0 in
-    let stays = node_stays c.args.pass.now.id v.client h.below h.content (locked h.above h.content_above ∷ []) h.own (h.apart, tt) (free + 4) (free / 4 + 1) (let even = h.held.even in omega (arith, even)) h.content refl in
-    first_frees v b words c.args.words_above.now free c.args.two.free_above h first.key at_x StaysSame c.args.pass.now.id (free + 4) stays
+    let stays = node_stays c.args.seat.now.id v.client h.below h.content (locked h.above h.content_above ∷ []) h.own (h.apart, tt) (free + 4) (free / 4 + 1) (let even = h.held.even in omega (arith, even)) h.content refl in
+    first_frees v b words c.args.words_above.now free c.args.two.free_above h first.key at_x StaysSame c.args.seat.now.id (free + 4) stays
 
 pub unlock_same-requires-clause-holds : goal.unlock_same-requires-clause-holds
 unlock_same-requires-clause-holds c =
-    let v = c.args.pass.now.view in
-    let b = c.args.pass.now.book in
+    let v = c.args.seat.now.view in
+    let b = c.args.seat.now.book in
     let words = c.args.words.now in
     let words_above = c.args.words_above.now in
     let h = c.requires.holds in
@@ -46,8 +46,8 @@ unlock_same-requires-clause-holds c =
 
 pub returns : goal.returns
 returns c =
-    let v = c.args.pass.now.view in
-    let b = c.args.pass.now.book in
+    let v = c.args.seat.now.view in
+    let b = c.args.seat.now.book in
     let words = c.args.words.now in
     let words_above = c.args.words_above.now in
     let h = c.requires.holds in
@@ -65,7 +65,7 @@ returns c =
         record {
           own = t.2.own;
           holds = t.2.holds;
-          alike = alike_then v w c.unlock_same.new.pass.view record {
+          alike = alike_then v w c.unlock_same.new.seat.view record {
             places = ap (λ (z : SeatView View). z.places) f.1;
             met = ap (λ (z : SeatView View). z.client.met) f.1 ∙ ap (λ (z : View). z.met) f.2;
             room = ap (λ (z : SeatView View). z.room) f.1;

@@ -4,8 +4,8 @@ use Rattle.live_detach.proofs.tidy.tidy.Given as goal
 
 abbrev pub invariant-loop : goal.invariant-loop
 invariant-loop l = record {
-  book : l.pass.book ≡ l.fn.pass.book;
-  id : l.pass.id ≡ l.fn.pass.id;
-  ready : IsReady l.pass.view l.room;
-  seen : l.pass.view.client.seen ≡ l.fn.pass.view.client.seen;
+  book : l.seat.book ≡ l.fn.seat.book;
+  id : l.seat.id ≡ l.fn.seat.id;
+  ready : IsReady l.seat.view l.room;
+  seen : l.seat.view.client.seen ≡ l.fn.seat.view.client.seen;
 }

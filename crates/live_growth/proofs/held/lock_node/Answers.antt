@@ -2,22 +2,22 @@ use Rattle.std.proofs.Common.{rules, arith, sym, ap, subst, ℕ, List, ◌≡◌
 use Rattle.live_layout.specs.Head.{IsHead}
 use Rattle.live_nodes.specs.Rows.{last_saw, without_reads}
 use Rattle.live_law.specs.Levels.{place_at}
-use Rattle.live_reads.specs.Ways.{AreNamed}
+use Rattle.live_reads.specs.Paths.{AreNamed}
 use Rattle.live_reads.specs.Sees.{Sees}
-use Rattle.live_reads.specs.declared.sight.Sight.TheVariants as sights
+use Rattle.live_reads.specs.declared.prefix_match.PrefixMatch.TheVariants as prefix_matches
 use Rattle.live_reads.proofs.Views.{first_word, at_place, node_taken, may_read_node, reads_on, open_long_of}
 use Rattle.live_growth.proofs.Locks.{alike_taken, alike_read, may_lock, not_locked, is_locked}
 use Rattle.live_growth.proofs.held.lock_node.Goals as goal
 
 pub take-free-requires-clause-book : goal.take-free-requires-clause-book
 take-free-requires-clause-book c =
-    let v = c.args.pass.now.view in
+    let v = c.args.seat.now.view in
     let n = c.requires.named in
     let name = c.args.name in
     let key = c.args.key in
     let height = c.args.height in
     let words = c.args.words.now in
-    let b = c.args.pass.now.book in
+    let b = c.args.seat.now.book in
     let p = place_at n.spot in
     let are = c.requires.words in
     let first = c.index-words-0.result in
@@ -26,13 +26,13 @@ take-free-requires-clause-book c =
 
 pub take-free-requires-clause-known : goal.take-free-requires-clause-known
 take-free-requires-clause-known c =
-    let v = c.args.pass.now.view in
+    let v = c.args.seat.now.view in
     let n = c.requires.named in
     let name = c.args.name in
     let key = c.args.key in
     let height = c.args.height in
     let words = c.args.words.now in
-    let b = c.args.pass.now.book in
+    let b = c.args.seat.now.book in
     let p = place_at n.spot in
     let are = c.requires.words in
     let first = c.index-words-0.result in
@@ -41,13 +41,13 @@ take-free-requires-clause-known c =
 
 pub returns-then-free-ne0 : goal.returns-then-free-ne0
 returns-then-free-ne0 c =
-    let v = c.args.pass.now.view in
+    let v = c.args.seat.now.view in
     let n = c.requires.named in
     let name = c.args.name in
     let key = c.args.key in
     let height = c.args.height in
     let words = c.args.words.now in
-    let b = c.args.pass.now.book in
+    let b = c.args.seat.now.book in
     let p = place_at n.spot in
     let are = c.requires.words in
     let first = c.index-words-0.result in
@@ -61,13 +61,13 @@ returns-then-free-ne0 c =
 
 pub word-head-requires-clause-may : goal.word-head-requires-clause-may
 word-head-requires-clause-may c =
-    let v = c.args.pass.now.view in
+    let v = c.args.seat.now.view in
     let n = c.requires.named in
     let name = c.args.name in
     let key = c.args.key in
     let height = c.args.height in
     let words = c.args.words.now in
-    let b = c.args.pass.now.book in
+    let b = c.args.seat.now.book in
     let p = place_at n.spot in
     let are = c.requires.words in
     let first = c.index-words-0.result in
@@ -80,13 +80,13 @@ word-head-requires-clause-may c =
 
 pub word-head-requires-clause-inside : goal.word-head-requires-clause-inside
 word-head-requires-clause-inside c =
-    let v = c.args.pass.now.view in
+    let v = c.args.seat.now.view in
     let n = c.requires.named in
     let name = c.args.name in
     let key = c.args.key in
     let height = c.args.height in
     let words = c.args.words.now in
-    let b = c.args.pass.now.book in
+    let b = c.args.seat.now.book in
     let p = place_at n.spot in
     let are = c.requires.words in
     let first = c.index-words-0.result in
@@ -95,13 +95,13 @@ word-head-requires-clause-inside c =
 
 pub returns-in_default : goal.returns-in_default
 returns-in_default c =
-    let v = c.args.pass.now.view in
+    let v = c.args.seat.now.view in
     let n = c.requires.named in
     let name = c.args.name in
     let key = c.args.key in
     let height = c.args.height in
     let words = c.args.words.now in
-    let b = c.args.pass.now.book in
+    let b = c.args.seat.now.book in
     let p = place_at n.spot in
     let are = c.requires.words in
     let first = c.index-words-0.result in
@@ -121,13 +121,13 @@ returns-in_default c =
 
 pub returns-then-at-height : goal.returns-then-at-height
 returns-then-at-height c =
-    let v = c.args.pass.now.view in
+    let v = c.args.seat.now.view in
     let n = c.requires.named in
     let name = c.args.name in
     let key = c.args.key in
     let height = c.args.height in
     let words = c.args.words.now in
-    let b = c.args.pass.now.book in
+    let b = c.args.seat.now.book in
     let p = place_at n.spot in
     let are = c.requires.words in
     let first = c.index-words-0.result in
@@ -147,13 +147,13 @@ returns-then-at-height c =
 
 pub lock-requires-clause-book : goal.lock-requires-clause-book
 lock-requires-clause-book c =
-    let v = c.args.pass.now.view in
+    let v = c.args.seat.now.view in
     let n = c.requires.named in
     let name = c.args.name in
     let key = c.args.key in
     let height = c.args.height in
     let words = c.args.words.now in
-    let b = c.args.pass.now.book in
+    let b = c.args.seat.now.book in
     let p = place_at n.spot in
     let are = c.requires.words in
     let first = c.index-words-0.result in
@@ -175,13 +175,13 @@ lock-requires-clause-book c =
 
 pub lock-requires-clause-locks : goal.lock-requires-clause-locks
 lock-requires-clause-locks c =
-    let v = c.args.pass.now.view in
+    let v = c.args.seat.now.view in
     let n = c.requires.named in
     let name = c.args.name in
     let key = c.args.key in
     let height = c.args.height in
     let words = c.args.words.now in
-    let b = c.args.pass.now.book in
+    let b = c.args.seat.now.book in
     let p = place_at n.spot in
     let are = c.requires.words in
     let first = c.index-words-0.result in
@@ -203,13 +203,13 @@ lock-requires-clause-locks c =
 
 pub returns-then-not-lock : goal.returns-then-not-lock
 returns-then-not-lock c =
-    let v = c.args.pass.now.view in
+    let v = c.args.seat.now.view in
     let n = c.requires.named in
     let name = c.args.name in
     let key = c.args.key in
     let height = c.args.height in
     let words = c.args.words.now in
-    let b = c.args.pass.now.book in
+    let b = c.args.seat.now.book in
     let p = place_at n.spot in
     let are = c.requires.words in
     let first = c.index-words-0.result in
@@ -235,13 +235,13 @@ returns-then-not-lock c =
 
 pub returns : goal.returns
 returns c =
-    let v = c.args.pass.now.view in
+    let v = c.args.seat.now.view in
     let n = c.requires.named in
     let name = c.args.name in
     let key = c.args.key in
     let height = c.args.height in
     let words = c.args.words.now in
-    let b = c.args.pass.now.book in
+    let b = c.args.seat.now.book in
     let p = place_at n.spot in
     let are = c.requires.words in
     let first = c.index-words-0.result in
@@ -262,7 +262,7 @@ returns c =
     let told = c.lock.ensures.told in
     let s = c.lock.ensures.seat in
     let w = c.lock.new.seat.view in
-    let covers : c.compare.result ≡ sights.Covers c.in-Covers.at = search rules in
+    let covers : c.compare.result ≡ prefix_matches.Covers c.in-Covers.at = search rules in
     let same_height : c.in-Covers.at ≡ height = search rules in
-    let sees = λ (form : ℕ) (q : List ℕ) (h : IsHead c.word-head.result form q). subst (λ z. Sees q key (sights.Covers z)) same_height (subst (Sees q key) covers (c.compare.ensures form q h)) in
+    let sees = λ (form : ℕ) (q : List ℕ) (h : IsHead c.word-head.result form q). subst (λ z. Sees q key (prefix_matches.Covers z)) same_height (subst (Sees q key) covers (c.compare.ensures form q h)) in
     record { told = (s.0 ∙ book₂, s.1 ∙ id₂, is_locked v name key height n v₂ t saw is_read again.key at_again w told.0 told.1 told.3 (search rules) (search rules) (search rules) c.ranges.key.fits c.word-head.result (λ content agrees. (c.word-head.ensures.read content agrees).0) sees, tt) }

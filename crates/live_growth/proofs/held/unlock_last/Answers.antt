@@ -10,9 +10,9 @@ use Rattle.live_growth.proofs.held.unlock_last.Goals as goal
 
 pub unlock-requires-clause-frees : goal.unlock-requires-clause-frees
 unlock-requires-clause-frees c =
-    let v = c.args.pass.now.view in
+    let v = c.args.seat.now.view in
     let words = c.args.words.now in
-    let b = c.args.pass.now.book in
+    let b = c.args.seat.now.book in
     let free = c.args.free in
     let a = c.requires.holds.0 in
     let p = c.requires.holds.1 in
@@ -23,13 +23,13 @@ unlock-requires-clause-frees c =
     let first = c.index-words-0.result in
     let at_k = (first_word (place_at a) b words h.are first first (sym c.index-words-0.is)).0 in
     let even = c.requires.word.0 in
-    first_frees v a free x (g ∷ []) h.holds h.placed first.key at_k StaysSame c.args.pass.now.id (free + 4) (node_stays c.args.pass.now.id v.client a x (locked p e ∷ []) h.own (h.apart, tt) (free + 4) (free / 4 + 1) (omega (arith, even)) x refl)
+    first_frees v a free x (g ∷ []) h.holds h.placed first.key at_k StaysSame c.args.seat.now.id (free + 4) (node_stays c.args.seat.now.id v.client a x (locked p e ∷ []) h.own (h.apart, tt) (free + 4) (free / 4 + 1) (omega (arith, even)) x refl)
 
 pub returns : goal.returns
 returns c =
-    let v = c.args.pass.now.view in
+    let v = c.args.seat.now.view in
     let words = c.args.words.now in
-    let b = c.args.pass.now.book in
+    let b = c.args.seat.now.book in
     let free = c.args.free in
     let a = c.requires.holds.0 in
     let p = c.requires.holds.1 in

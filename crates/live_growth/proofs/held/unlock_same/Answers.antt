@@ -10,22 +10,22 @@ use Rattle.live_growth.proofs.held.unlock_same.Goals as goal
 
 pub unlock-requires-clause-frees : goal.unlock-requires-clause-frees
 unlock-requires-clause-frees c =
-    let v = c.args.pass.now.view in
+    let v = c.args.seat.now.view in
     let words = c.args.words.now in
-    let b = c.args.pass.now.book in
+    let b = c.args.seat.now.book in
     let free = c.args.free in
     let a = c.requires.holds.0 in
     let x = c.requires.holds.1 in
     let h = c.requires.holds.2 in
     let first = c.index-words-0.result in
     let at_k = (first_word (place_at a) b words h.are first first (sym c.index-words-0.is)).0 in
-    may_free v b words free a x x h first.key at_k StaysSame c.args.pass.now.id (free + 4) (node_stays c.args.pass.now.id v.client a x [] h.own tt (free + 4) (free / 4 + 1) (let even = c.requires.word.0 in omega (arith, even)) x refl)
+    may_free v b words free a x x h first.key at_k StaysSame c.args.seat.now.id (free + 4) (node_stays c.args.seat.now.id v.client a x [] h.own tt (free + 4) (free / 4 + 1) (let even = c.requires.word.0 in omega (arith, even)) x refl)
 
 pub returns : goal.returns
 returns c =
-    let v = c.args.pass.now.view in
+    let v = c.args.seat.now.view in
     let words = c.args.words.now in
-    let b = c.args.pass.now.book in
+    let b = c.args.seat.now.book in
     let free = c.args.free in
     let a = c.requires.holds.0 in
     let x = c.requires.holds.1 in

@@ -3,12 +3,12 @@ use Rattle.live_growth.proofs.insert.enlarge.Goals as goal
 
 pub returns-then-replace : goal.returns-then-replace
 returns-then-replace c =
-    let v = c.args.pass.now.view in
-    let w = c.replace.new.pass.view in
+    let v = c.args.seat.now.view in
+    let w = c.replace.new.seat.view in
     let room = c.replace.new.room in
     let t = c.replace.ensures.told in
-    let s = c.args.stand in
-    let met = sights_grown v w s.name c.args.key s.height t.3 c.requires.stands.named in
+    let s = c.args.position in
+    let met = sights_grown v w s.name c.args.key s.height t.3 c.requires.position.named in
     record { told = (t.0, t.1, ready_spare w room c.keep.new.self t.2 (c.keep.ensures.kept w t.2.spare met), t.3.seen) }
 
 pub returns-else-replace : goal.returns-else-replace

@@ -1,8 +1,8 @@
-use Rattle.live_growth.proofs.StoodOn.{stands_grown}
+use Rattle.live_growth.proofs.StoodOn.{position_grown}
 use Rattle.live_growth.proofs.insert.extend.Goals as goal
 
-pub enlarge-requires-clause-stands : goal.enlarge-requires-clause-stands
-enlarge-requires-clause-stands c = stands_grown c.args.pass.now.view c.lead_on.new.pass.view c.args.key c.args.stand c.lead_on.ensures.told.3 c.requires.stands
+pub enlarge-requires-clause-position : goal.enlarge-requires-clause-position
+enlarge-requires-clause-position c = position_grown c.args.seat.now.view c.lead_on.new.seat.view c.args.key c.args.position c.lead_on.ensures.told.3 c.requires.position
 
 pub returns-in-Ok : goal.returns-in-Ok
 returns-in-Ok c = let t = c.lead_on.ensures.told in record { told = (t.0, t.1, t.2, t.3.seen) }

@@ -1,20 +1,35 @@
-use Rattle.std.proofs.Common.{rules, arith, ◌≢◌}
-use Rattle.live_growth.proofs.Ready.{ready_grown, ready_again}
+use Rattle.std.proofs.Common.{rules, arith, ◌≢◌, ◌∙◌}
+use Rattle.live_growth.proofs.Ready.{ready_again}
+use Rattle.live_growth.proofs.Rooms.{grown_twice}
+use Rattle.live_growth.proofs.StoodOn.{position_grown}
 use Rattle.live_growth.proofs.insert.lead_on.Goals as goal
+
+pub spare_or_made-spare-requires-clause-spare : goal.spare_or_made-spare-requires-clause-spare
+spare_or_made-spare-requires-clause-spare c = λ some. c.spare_for_new.ensures c.args.seat.now.view c.requires.ready.spare some
 
 pub returns-then-spare-eq0 : goal.returns-then-spare-eq0
 returns-then-spare-eq0 c =
-    let t = c.link.ensures.told in
-    let l = c.link.new in
-    record { told = (t.0, t.1, ready_grown c.args.pass.now.view l.pass.view c.args.room.now l.room c.requires.ready t.2 t.3 t.4, t.2) }
+    let s = c.spare_or_made-spare.ensures in
+    let g = s.grown in
+    record { told = (s.seat.0, s.seat.1, s.ready, g) }
 
-pub link_again-requires-clause-spare : goal.link_again-requires-clause-spare
-link_again-requires-clause-spare c =
-    let some : c.spare_for_new-spare.result ≢ 0 = search rules in
-    (c.spare_for_new-spare.ensures c.args.pass.now.view c.requires.ready.spare (omega (arith, some)))
+pub link-requires-clause-named : goal.link-requires-clause-named
+link-requires-clause-named c =
+    let g = c.spare_or_made-spare.ensures.grown in
+    (position_grown c.args.seat.now.view c.spare_or_made-spare.new.seat.view c.args.key c.args.position g c.requires.position).named
+
+pub link-requires-clause-spare : goal.link-requires-clause-spare
+link-requires-clause-spare c =
+    let some : c.spare_or_made-spare.result ≢ 0 = search rules in
+    c.spare_or_made-spare.ensures.sighted (omega (arith, some))
 
 pub returns : goal.returns
 returns c =
-    let t = c.link_again.ensures.told in
-    let l = c.link_again.new in
-    record { told = (t.0, t.1, ready_again c.args.pass.now.view l.pass.view c.args.room.now l.spares c.requires.ready t.2 t.3 c.link_again.ensures.spares, t.2) }
+    let v = c.args.seat.now.view in
+    let w = c.spare_or_made-spare.new.seat.view in
+    let x = c.link.new.seat.view in
+    let s = c.spare_or_made-spare.ensures in
+    let g = s.grown in
+    let e = c.link.ensures in
+    let t = e.told in
+    record { told = (t.0 ∙ s.seat.0, t.1 ∙ s.seat.1, ready_again w x c.spare_or_made-spare.new.room c.link.new.free_nodes s.ready t.2 t.3 e.free_nodes, grown_twice v w x g t.2) }

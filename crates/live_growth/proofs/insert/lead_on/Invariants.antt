@@ -3,7 +3,4 @@ use Rattle.live_law.specs.Views.{ask}
 use Rattle.live_growth.proofs.insert.lead_on.Given as goal
 
 abbrev pub ghosts-link : goal.ghosts-link
-ghosts-link a = record { ask = ask a.pass.now.id a.key 0 1; reads = false }
-
-abbrev pub ghosts-link_again : goal.ghosts-link_again
-ghosts-link_again a = record { ask = ask a.pass.now.id a.key 0 1; reads = false }
+ghosts-link a = record { ask = ask a.seat.now.id a.key 0 1; reads = false }

@@ -3,7 +3,4 @@ use Rattle.live_law.specs.Views.{ask}
 use Rattle.live_growth.proofs.insert.part.Given as goal
 
 abbrev pub ghosts-split : goal.ghosts-split
-ghosts-split a = record { ask = ask a.pass.now.id a.key 0 a.fork.at; reads = false }
-
-abbrev pub ghosts-split_again : goal.ghosts-split_again
-ghosts-split_again a = record { ask = ask a.pass.now.id a.key 0 a.fork.at; reads = false }
+ghosts-split a = record { ask = ask a.seat.now.id a.key 0 a.mismatch.at; reads = false }

@@ -7,7 +7,7 @@ use Rattle.live_growth.proofs.insert.reserve.Goals as goal
 
 pub returns : goal.returns
 returns c =
-    let v = c.args.pass.now.view in
+    let v = c.args.seat.now.view in
     let w = c.grow.new.seat.view in
     let g = c.in-Some.grown in
     let some : c.in_ok-grown.field-0 ≡ Some g = search rules in

@@ -6,7 +6,7 @@ use Rattle.live_growth.proofs.link.obstacle.Goals as goal
 
 pub returns-clause-none : goal.returns-clause-none
 returns-clause-none g c =
-    let words = g.D.Draft.words c.args.draft.now in
+    let words = g.D.WriteWords.words c.args.draft.now in
     let same = ap words c.find.ensures.seat.others in
     let none : c.find.result ≡ None = search rules in (
       subst (HasRoom c.args.form) same (c.is_full.ensures.left (search rules)),

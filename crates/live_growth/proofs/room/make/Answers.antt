@@ -1,71 +1,48 @@
-use Rattle.std.proofs.Common.{arith, sym, ap, subst, length, get_or, ◌≡◌, ◌+◌, ◌-◌, ◌∙◌}
+use Rattle.std.proofs.Common.{arith, sym, ap, subst, ◌≡◌, ◌+◌, ◌∙◌}
+use Rattle.node_base.specs.declared.base_node.NodeType.{NodeType}
 use Rattle.word_book.specs.Book.{Name, writes, none_joined}
-use Rattle.live_nodes.specs.Calls.{MayMake}
 use Rattle.live_nodes.specs.Plays.{Makes}
-use Rattle.live_nodes.specs.Rows.{filled}
+use Rattle.live_nodes.specs.Calls.{MayMake}
 use Rattle.live_layout.specs.Encodes.{words_of}
-use Rattle.live_layout.proofs.StandLaws.{few_forms}
 use Rattle.live_law.specs.Tree.{IsMap, IsMade}
-use Rattle.live_growth.proofs.Rooms.{last_is, may_make, has_made, has_room}
+use Rattle.live_growth.proofs.Rooms.{may_make, has_made, has_room}
 use Rattle.live_growth.proofs.room.make.Goals as goal
 
 pub make-requires-clause-makes : goal.make-requires-clause-makes
 make-requires-clause-makes g c =
-    let s = c.args.pass.now in
-    let v = s.view in
-    let words = c.args.words.now in
+    let s = c.args.seat.now in
     let form = c.args.form in
-    let left = c.requires.room.0 in
-    let f = c.requires.room.1 in
-    let n = c.requires.node.0 in
-    let q = g.A.Asks.ask in
-    let same = c.get-last.ensures.seat.same in
-    let d = c.index-words-words_in.result in
-    let m = c.words_in-2.ensures in
-    let long = f.long in
-    let at_key : v.room.start + words_of form ≡ d.key = ap (λ k. v.room.start + k) (sym m) ∙ ap (λ (w : Name). w.key) (sym (f.may.0 c.words_in-2.result d (omega (arith, m, long))) ∙ sym c.index-words-words_in.is) in
-    let last = last_is q v s.book words c.args.start left form f n c.requires.node.1 c.requires.node.2 c.get-last.result (c.get-last.ensures.is ∙ ap (λ k. get_or (filled (length words) v.room) (k - 1) 0) c.words_in.ensures) in
-    subst (λ t. MayMake t.view d.key IsMap t.id (IsMade q) c.get-last.result) (sym same)
-    (may_make q v s.book words c.args.start left form f n c.requires.node.1 c.requires.node.2 d.key at_key s.id c.get-last.result last)
+    let d = c.index-words-0.result in
+    let e = c.index-words-words_in.result in
+    let m = c.words_in.ensures in
+    let long = c.requires.words.0 in
+    let start : c.args.start + 0 ≡ d.key = ap (λ (w : Name). w.key) (sym (c.requires.words.1 0 d (omega (arith, long))) ∙ sym c.index-words-0.is) in
+    let last : c.args.start + words_of form ≡ e.key = ap (λ k. c.args.start + k) (sym m) ∙ ap (λ (w : Name). w.key) (sym (c.requires.words.1 c.words_in.result e (omega (arith, m, long))) ∙ sym c.index-words-words_in.is) in
+    subst (λ (f : NodeType). MayMake c.put.new.seat.view e.key IsMap c.put.new.seat.id (IsMade f) 0) (sym c.requires.form)
+    (may_make s.view c.args.start c.requires.room.0 form c.requires.room.1 c.requires.room.2 c.put.new.seat.view d.key (omega (arith, start)) c.put.ensures.told e.key last c.put.new.seat.id)
 
-pub returns-clause-told : goal.returns-clause-told
-returns-clause-told g c =
-    let s = c.args.pass.now in
-    let v = s.view in
-    let words = c.args.words.now in
+pub returns-clause-made : goal.returns-clause-made
+returns-clause-made g c =
+    let s = c.args.seat.now in
     let form = c.args.form in
-    let left = c.requires.room.0 in
-    let f = c.requires.room.1 in
-    let n = c.requires.node.0 in
-    let q = g.A.Asks.ask in
-    let same = c.get-last.ensures.seat.same in
-    let d = c.index-words-words_in.result in
-    let m = c.words_in-2.ensures in
-    let long = f.long in
-    let at_key : v.room.start + words_of form ≡ d.key = ap (λ k. v.room.start + k) (sym m) ∙ ap (λ (w : Name). w.key) (sym (f.may.0 c.words_in-2.result d (omega (arith, m, long))) ∙ sym c.index-words-words_in.is) in
-    let last = last_is q v s.book words c.args.start left form f n c.requires.node.1 c.requires.node.2 c.get-last.result (c.get-last.ensures.is ∙ ap (λ k. get_or (filled (length words) v.room) (k - 1) 0) c.words_in.ensures) in
-    let w = c.make.new.seat.view in
-    let told = subst (λ t. Makes (IsMade q) (writes d.key c.get-last.result) t.view c.get-last.result none_joined w) same c.make.ensures.told in
-    let few = few_forms form in (
-      c.make.ensures.seat.0 ∙ ap (λ z. z.book) same,
-      c.make.ensures.seat.1 ∙ ap (λ z. z.id) same,
-      has_made q v s.book words c.args.start left form f n c.requires.node.1 c.requires.node.2 d.key at_key w c.get-last.result last told c.word_below.result c.word_below.ensures.is c.requires.start (omega (arith, few)),
-    )
+    let d = c.index-words-0.result in
+    let e = c.index-words-words_in.result in
+    let m = c.words_in.ensures in
+    let long = c.requires.words.0 in
+    let start : c.args.start + 0 ≡ d.key = ap (λ (w : Name). w.key) (sym (c.requires.words.1 0 d (omega (arith, long))) ∙ sym c.index-words-0.is) in
+    let last : c.args.start + words_of form ≡ e.key = ap (λ k. c.args.start + k) (sym m) ∙ ap (λ (w : Name). w.key) (sym (c.requires.words.1 c.words_in.result e (omega (arith, m, long))) ∙ sym c.index-words-words_in.is) in
+    let told = subst (λ (f : NodeType). Makes (IsMade f) (writes e.key 0) c.put.new.seat.view 0 none_joined c.make.new.seat.view) c.requires.form c.make.ensures.told in
+    has_made s.view c.args.start c.requires.room.0 form c.requires.room.1 c.requires.room.2 c.put.new.seat.view d.key (omega (arith, start)) c.put.ensures.told e.key last c.make.new.seat.view told c.word_below.result c.word_below.ensures.is
 
 pub returns-clause-room : goal.returns-clause-room
-returns-clause-room g c = λ left f.
-    let s = c.args.pass.now in
-    let v = s.view in
-    let words = c.args.words.now in
+returns-clause-room g c = λ left r enough.
+    let s = c.args.seat.now in
     let form = c.args.form in
-    let n = c.requires.node.0 in
-    let q = g.A.Asks.ask in
-    let same = c.get-last.ensures.seat.same in
-    let d = c.index-words-words_in.result in
-    let m = c.words_in-2.ensures in
-    let long = f.long in
-    let at_key : v.room.start + words_of form ≡ d.key = ap (λ k. v.room.start + k) (sym m) ∙ ap (λ (w : Name). w.key) (sym (f.may.0 c.words_in-2.result d (omega (arith, m, long))) ∙ sym c.index-words-words_in.is) in
-    let last = last_is q v s.book words c.args.start left form f n c.requires.node.1 c.requires.node.2 c.get-last.result (c.get-last.ensures.is ∙ ap (λ k. get_or (filled (length words) v.room) (k - 1) 0) c.words_in.ensures) in
-    let w = c.make.new.seat.view in
-    let told = subst (λ t. Makes (IsMade q) (writes d.key c.get-last.result) t.view c.get-last.result none_joined w) same c.make.ensures.told in
-    has_room q v s.book words c.args.start left form f n c.requires.node.1 c.requires.node.2 d.key at_key w c.get-last.result last told
+    let d = c.index-words-0.result in
+    let e = c.index-words-words_in.result in
+    let m = c.words_in.ensures in
+    let long = c.requires.words.0 in
+    let start : c.args.start + 0 ≡ d.key = ap (λ (w : Name). w.key) (sym (c.requires.words.1 0 d (omega (arith, long))) ∙ sym c.index-words-0.is) in
+    let last : c.args.start + words_of form ≡ e.key = ap (λ k. c.args.start + k) (sym m) ∙ ap (λ (w : Name). w.key) (sym (c.requires.words.1 c.words_in.result e (omega (arith, m, long))) ∙ sym c.index-words-words_in.is) in
+    let told = subst (λ (f : NodeType). Makes (IsMade f) (writes e.key 0) c.put.new.seat.view 0 none_joined c.make.new.seat.view) c.requires.form c.make.ensures.told in
+    has_room s.view c.args.start left form r enough c.put.new.seat.view d.key (omega (arith, start)) c.put.ensures.told e.key last c.make.new.seat.view told

@@ -1,55 +1,55 @@
-use Rattle.std.proofs.Common.{inl, rules, arith, sym, ap, subst, length, refl, ℕ, Option, Some, None, List, [], ◌∷◌, ◌≡◌, ◌+◌, ◌-◌, ◌*◌, ◌/◌, ◌≤◌, ◌∙◌}
-use Rattle.node_base.specs.declared.base_node.NodeType.TheVariants.{N4}
-use Rattle.node_table.specs.TableNode.{TableNode, Child}
-use Rattle.node_table.specs.declared.child.Child.TheVariants.{Node}
-use Rattle.spec_map.specs.Map.{lookup, put}
+use Rattle.std.proofs.Common.{rules, arith, inl, inr, refl, sym, ap, subst, length, length-take, take, ℕ, Option, Some, None, List, [], ◌∷◌, ◌≡◌, ◌+◌, ◌-◌, ◌*◌, ◌/◌, ◌<◌, ◌≤◌, ◌∙◌}
+use Rattle.spec_node.specs.TableNode.{TableNode, Child}
+use Rattle.spec_node.specs.declared.child.Child.TheVariants.{Node}
+use Rattle.spec_map.specs.Map.{lookup}
+use Rattle.live_nodes.specs.Seats.{SeatView, seat_view, Place, Hold, IsIn, hold}
+use Rattle.word_book.specs.Book.{Book}
 use Rattle.live_nodes.specs.Nodes.{Content}
-use Rattle.live_nodes.specs.Seats.{SeatView, IsIn}
 use Rattle.live_nodes.specs.Acts as acts
 use Rattle.live_nodes.specs.Rows.{AreOf, draft_of, nth}
-use Rattle.live_layout.specs.Encodes.{words_of, Encodes, IsBelow, IsWord}
-use Rattle.live_law.specs.Levels.{up, digit, way, Spot, place_at}
-use Rattle.live_law.specs.Views.{View, Own, locked, fresh, watch}
-use Rattle.live_law.specs.Tree.{IsMap, Links}
-use Rattle.live_law.proofs.Joins.{IsFork, link_above}
-use Rattle.live_reads.specs.Ways.{AreNamed, Sights, Keeps}
-use Rattle.live_reads.specs.Forks.{first_held, IsParted}
-use Rattle.live_growth.specs.Holds.{HasLocked, HoldsOne}
-use Rattle.live_growth.specs.Rooms.{HasRoom, HasForked}
+use Rattle.live_layout.specs.Encodes.{words_of, Encodes, IsBelow, IsWord, empty_node, with_child}
+use Rattle.live_law.specs.Levels.{up, digit, bytes_above, Spot, place_at}
+use Rattle.live_law.specs.Views.{View, Own, locked, detached, rest_of, watch}
+use Rattle.live_law.specs.Tree.{IsMap, LinksAgain, StaysSame, again, left_again}
+use Rattle.live_law.proofs.Joins.{link_above}
+use Rattle.live_law.proofs.Writes.{node_stays, node_retires}
+use Rattle.live_reads.specs.Paths.{AreNamed}
+use Rattle.live_reads.specs.Mismatches.{IsParted}
+use Rattle.live_growth.specs.Holds.{Alike, HasLocked, HasReclaimed, HoldsOne, number_at}
 use Rattle.live_reads.proofs.Views.{first_word}
 use Rattle.live_growth.proofs.Locks.{taken_by, holds_one, may_hold, draft_is}
-use Rattle.live_growth.proofs.Grips.{Grips, grips_one, grip_made, grip_holds, grip_draft, grip_wrote, grip_frees, grip_freed}
-use Rattle.live_growth.proofs.Pairs.{change_done, grown_changes, at_result}
-use Rattle.live_growth.proofs.Linked.{has_grown_on, room_after}
+use Rattle.live_growth.proofs.Grips.{Grips, grip_frees, grip_freed}
+use Rattle.live_growth.proofs.Pairs.{Pair, pair_first, pair_second, first_draft, second_draft, pair_wrote, pair_frees, pair_freed, change_done, grown_changes, at_result}
+use Rattle.live_growth.proofs.Again.{pair_reclaimed, pair_keeps, pair_filled, again_split, again_grown_on, first_frees, first_freed}
 use Rattle.live_growth.proofs.split.split.Given.{Over}
 use Rattle.live_growth.proofs.split.split.Goals as goal
-use Rattle.live_growth.proofs.split.split.Goals.{In-Some-lock_node, After-parts, After-make_fork-new, After-change}
+use Rattle.live_growth.proofs.split.split.Goals.{In-Some-lock_node, In-Some-reclaim, After-parts, After-put, After-change, After-unlock_again, After-retire}
 
 abbrev Seen : Type 0
 Seen = SeatView View
 
 -- THE NODE ABOVE is locked
 module _ (g : Over) (c : In-Some-lock_node g) where
-  above : HasLocked c.args.pass.now.view c.lock_node.new.pass.view c.args.above c.args.key c.args.height c.in-Some-lock_node.free
+  above : HasLocked c.args.seat.now.view c.lock_node.new.seat.view c.args.above c.args.key c.args.height c.in-Some-lock_node.free
   above =
       let locked : c.lock_node.result ≡ Some c.in-Some-lock_node.free = search rules in
-      taken_by c.lock_node.result c.in-Some-lock_node.free locked (HasLocked c.args.pass.now.view c.lock_node.new.pass.view c.args.above c.args.key c.args.height) c.lock_node.ensures.told.2
+      taken_by c.lock_node.result c.in-Some-lock_node.free locked (HasLocked c.args.seat.now.view c.lock_node.new.seat.view c.args.above c.args.key c.args.height) c.lock_node.ensures.told.2
 
   above_form : c.form_below-form.result ≡ above.names.spot.shape.form
   above_form = c.form_below-form.ensures above.names.spot.shape.key above.names.spot.shape.form above.names.named
 
-  above_held : HoldsOne c.lock_node.new.pass.view c.lock_node.new.pass.book c.in-Some.words.now c.in-Some-lock_node.free above.names.spot above.content above.content
+  above_held : HoldsOne c.lock_node.new.seat.view c.lock_node.new.seat.book c.in-Some.words.now c.in-Some-lock_node.free above.names.spot above.content above.content
   above_held =
       let named = subst (λ z. AreNamed z c.args.above c.in-Some.words.now) (sym (c.lock_node.ensures.told.0 ∙ c.requires.book)) c.in-Some.ensures in
-      holds_one c.args.pass.now.view c.lock_node.new.pass.view c.args.above c.args.key c.args.height c.in-Some-lock_node.free above c.lock_node.new.pass.book c.in-Some.words.now named c.requires.rests.0 c.requires.rests.1
+      holds_one c.args.seat.now.view c.lock_node.new.seat.view c.args.above c.args.key c.args.height c.in-Some-lock_node.free above c.lock_node.new.seat.book c.in-Some.words.now named c.requires.rests.0 c.requires.rests.1
 
-  above_drafted : draft_of (nth 0 c.lock_node.new.pass.view.holds) ≡ above.content
-  above_drafted = draft_is c.lock_node.new.pass.view c.lock_node.new.pass.book c.in-Some.words.now c.in-Some-lock_node.free above.names.spot above.content above.content above_held
+  above_drafted : draft_of (nth 0 c.lock_node.new.seat.view.holds) ≡ above.content
+  above_drafted = draft_is c.lock_node.new.seat.view c.lock_node.new.seat.book c.in-Some.words.now c.in-Some-lock_node.free above.names.spot above.content above.content above_held
 
--- WHETHER THE NODE BELOW PARTS from the key was read
-module _ (g : Over) (c : After-parts g) where
+-- THE NODE THAT IS USED AGAIN is locked, too
+module _ (g : Over) (c : In-Some-reclaim g) where
   abbrev first : In-Some-lock_node g
-  first = (goal.at.After-parts g c).In-Some-lock_node
+  first = (goal.at.In-Some-reclaim g c).In-Some-lock_node
 
   abbrev a : Spot
   a = (above g first).names.spot
@@ -57,246 +57,345 @@ module _ (g : Over) (c : After-parts g) where
   abbrev ca : Content
   ca = (above g first).content
 
-  keeps : Keeps c.lock_node.new.pass.view c.parts.new.pass.view
-  keeps = subst (λ s. Keeps s.view c.parts.new.pass.view) c.leads_to.ensures.seat.same c.parts.ensures.told.2
+  back : HasReclaimed c.leads_to.new.seat.view c.reclaim.new.seat.view c.args.spare c.in-Some-reclaim.back
+  back =
+      let locked : c.reclaim.result ≡ Some c.in-Some-reclaim.back = search rules in
+      taken_by c.reclaim.result c.in-Some-reclaim.back locked (HasReclaimed c.leads_to.new.seat.view c.reclaim.new.seat.view c.args.spare) c.reclaim.ensures.told.2
 
-  same_book : c.parts.new.pass.book ≡ c.lock_node.new.pass.book
-  same_book = c.parts.ensures.told.0 ∙ ap (λ s. s.book) c.leads_to.ensures.seat.same
+  abbrev r : Spot
+  r = back.spot
 
-  one : HoldsOne c.parts.new.pass.view c.parts.new.pass.book c.in-Some.words.now c.in-Some-lock_node.free a ca ca
-  one = let h = above_held g first in record {
-    own = keeps.own ∙ h.own;
-    holds = keeps.holds ∙ h.holds;
-    placed = keeps.places (place_at a) h.placed;
-    are = subst (λ y. AreOf (place_at a) y c.in-Some.words.now) (sym same_book) h.are;
+  back_form : c.form_below-kind.result ≡ r.shape.form
+  back_form = c.form_below-kind.ensures r.shape.key r.shape.form back.named
+
+  above_still : HoldsOne c.leads_to.new.seat.view c.leads_to.new.seat.book c.in-Some.words.now c.in-Some-lock_node.free a ca ca
+  above_still = subst (λ z. HoldsOne z.view z.book c.in-Some.words.now c.in-Some-lock_node.free a ca ca) (sym c.leads_to.ensures.seat.same) (above_held g first)
+
+  back_book : c.reclaim.new.seat.book ≡ c.args.seat.now.book
+  back_book = c.reclaim.ensures.told.0 ∙ (ap (λ z. z.book) c.leads_to.ensures.seat.same ∙ c.lock_node.ensures.told.0)
+
+  back_id : c.reclaim.new.seat.id ≡ c.args.seat.now.id
+  back_id = c.reclaim.ensures.told.1 ∙ (ap (λ z. z.id) c.leads_to.ensures.seat.same ∙ c.lock_node.ensures.told.1)
+
+  -- the seat holds both, with these drafts
+  abbrev Hold2 : Seen → Book → Content → Content → Type 0
+  Hold2 v b dr da = Pair v b c.in-Some-words_at.others.now c.in-Some.words.now c.in-Some-reclaim.back c.in-Some-lock_node.free r (place_at a) dr da
+
+  both : Hold2 c.reclaim.new.seat.view c.reclaim.new.seat.book back.content ca
+  both =
+      let named = subst (λ z. AreNamed z c.args.spare c.in-Some-words_at.others.now) (sym (back_book ∙ c.requires.book)) c.in-Some-words_at.ensures in
+      pair_reclaimed c.leads_to.new.seat.view c.reclaim.new.seat.view c.leads_to.new.seat.book c.reclaim.new.seat.book c.in-Some-words_at.others.now c.in-Some.words.now c.in-Some-reclaim.back c.in-Some-lock_node.free c.args.spare back a ca c.reclaim.ensures.told.0 above_still named
+
+  back_own : c.reclaim.new.seat.view.client.own ≡ detached r ∷ locked a ca ∷ []
+  back_own = back.own ∙ ap (λ (os : List Own). detached r ∷ os) above_still.own
+
+  back_alike : Alike c.args.seat.now.view c.reclaim.new.seat.view
+  back_alike = let same = c.leads_to.ensures.seat.same in let h = (above g first).alike in record {
+    places = back.alike.places ∙ (ap (λ z. z.view.places) same ∙ h.places);
+    met = back.alike.met ∙ (ap (λ z. z.view.client.met) same ∙ h.met);
+    room = back.alike.room ∙ (ap (λ z. z.view.room) same ∙ h.room);
   }
 
-  seen_then : c.parts.new.pass.view.client.seen ≡ c.args.pass.now.view.client.seen
-  seen_then = c.parts.ensures.told.3 ∙ (ap (λ s. s.view.client.seen) c.leads_to.ensures.seat.same ∙ (above g first).seen)
+  back_seen : c.reclaim.new.seat.view.client.seen ≡ c.args.seat.now.view.client.seen
+  back_seen = back.seen ∙ (ap (λ z. z.view.client.seen) c.leads_to.ensures.seat.same ∙ (above g first).seen)
 
-  id_then : c.parts.new.pass.id ≡ c.args.pass.now.id
-  id_then = c.parts.ensures.told.1 ∙ (ap (λ s. s.id) c.leads_to.ensures.seat.same ∙ c.lock_node.ensures.told.1)
+-- WHETHER THE NODE BELOW PARTS from the key was read
+module _ (g : Over) (c : After-parts g) where
+  abbrev second : In-Some-reclaim g
+  second = (goal.at.After-parts g c).In-Some-reclaim
 
-  room_then : HasRoom c.parts.new.pass.view c.args.room.now.start c.args.room.now.left
-  room_then =
-      let start = c.args.room.now.start in let left = c.args.room.now.left in
-      room_after c.args.pass.now.view c.parts.new.pass.view start left start left (keeps.room ∙ (above g first).alike.room) refl (omega arith) c.requires.room
+  both_then : Hold2 g second c.parts.new.seat.view c.parts.new.seat.book (back g second).content (ca g second)
+  both_then = pair_keeps _ _ _ _ _ _ _ _ _ _ (both g second) c.parts.new.seat.view c.parts.new.seat.book c.parts.ensures.told.0 c.parts.ensures.told.2
 
--- A NODE IS MADE with the one below
-module _ (g : Over) (c : After-make_fork-new g) where
+  own_then : c.parts.new.seat.view.client.own ≡ detached (r g second) ∷ locked (a g second) (ca g second) ∷ []
+  own_then = c.parts.ensures.told.2.own ∙ back_own g second
+
+-- it doesn't: the node is given up
+module _ (g : Over) (c : After-retire g) where
+  abbrev read_of : After-parts g
+  read_of = (goal.at.After-retire g c).After-parts
+
+  abbrev two_of : In-Some-reclaim g
+  two_of = second g read_of
+
+  abbrev hold_a : Hold
+  hold_a = hold (a g two_of).number (c.in-Some-lock_node.free + 2) (ca g two_of)
+
+  retired : (e : View) × (c.retire.new.seat.view ≡ seat_view e c.parts.new.seat.view.places c.parts.new.seat.view.reads (hold_a ∷ []) c.parts.new.seat.view.room) × StaysSame c.parts.new.seat.view.client (r g two_of).number (back g two_of).content e
+  retired =
+      let z = both_then g read_of in
+      let at_r = (first_word (place_at (r g two_of)) c.parts.new.seat.book c.in-Some-words_at.others.now z.are_x c.index-others-0.result c.index-others-0.result (sym c.index-others-0.is)).0 in
+      first_freed c.parts.new.seat.view (r g two_of) c.in-Some-reclaim.back (back g two_of).content (hold_a ∷ []) z.holds z.placed_x c.index-others-0.result.key at_r StaysSame (z.apart, tt) c.retire.new.seat.view (c.in-Some-reclaim.back + 3) c.retire.ensures.told
+
+-- IT IS FILLED
+module _ (g : Over) (c : After-put g) where
   abbrev parted : After-parts g
-  parted = (goal.at.After-make_fork-new g c).After-parts
+  parted = (goal.at.After-put g c).After-parts
 
-  forked : HasForked g.A.Asks.ask c.parts.new.pass.view c.make_fork-new.new.pass.view c.args.fork.below c.args.fork.byte c.make_fork-new.result
-  forked = c.make_fork-new.ensures.told.2
+  filled : Hold2 g (second g parted) c.put.new.seat.view c.put.new.seat.book (draft_of (nth 0 c.put.new.seat.view.holds)) (ca g (second g parted))
+  filled =
+      let laid = c.lay.ensures.seat.others in let others = c.put.ensures.seat.others in
+      let first_time = pair_filled _ _ _ _ _ _ _ _ _ _ (both_then g parted) c.lay.new.seat.view c.lay.new.seat.book (ap (λ s. s.book) laid) (ap (λ s. s.view) laid) in
+      pair_filled _ _ _ _ _ _ _ _ _ _ first_time c.put.new.seat.view c.put.new.seat.book (ap (λ s. s.book) others) (ap (λ s. s.view) others)
 
-  grip : Grips c.make_fork-new.new.pass.view c.make_fork-new.new.pass.book c.in-Some.words.now c.in-Some-lock_node.free (place_at (a g parted)) (ca g parted)
-  grip = grip_made c.parts.new.pass.view c.make_fork-new.new.pass.view c.parts.new.pass.book c.make_fork-new.new.pass.book c.in-Some.words.now c.in-Some-lock_node.free (place_at (a g parted)) (ca g parted) c.make_fork-new.ensures.told.0
-      (grips_one c.parts.new.pass.view c.parts.new.pass.book c.in-Some.words.now c.in-Some-lock_node.free (a g parted) (ca g parted) (ca g parted) (one g parted)) g.A.Asks.ask forked.content N4 c.make_fork-new.result forked.made
-
-  drafted : draft_of (nth 0 c.make_fork-new.new.pass.view.holds) ≡ ca g parted
-  drafted = grip_draft c.make_fork-new.new.pass.view c.make_fork-new.new.pass.book c.in-Some.words.now c.in-Some-lock_node.free (place_at (a g parted)) (ca g parted) grip
-
-  own_then : c.make_fork-new.new.pass.view.client.own ≡ fresh forked.made.spot forked.content ∷ locked (a g parted) (ca g parted) ∷ []
-  own_then = ap (λ (e : View). e.own) forked.made.client ∙ ap (λ (os : List Own). fresh forked.made.spot forked.content ∷ os) (one g parted).own
+  above_was : draft_of (nth 1 c.put.new.seat.view.holds) ≡ ca g (second g parted)
+  above_was = second_draft _ _ _ _ _ _ _ _ _ _ filled
 
 -- the node above leads to it
 module _ (g : Over) (c : After-change g) where
-  abbrev made : After-make_fork-new g
-  made = (goal.at.After-change g c).After-make_fork-new
+  abbrev made : After-put g
+  made = (goal.at.After-change g c).After-put
 
-  abbrev read_of : After-parts g
-  read_of = parted g made
+  abbrev held_of : In-Some-reclaim g
+  held_of = second g (parted g made)
 
   abbrev a_of : Spot
-  a_of = a g read_of
+  a_of = a g held_of
 
-  abbrev y_of : Spot
-  y_of = (forked g made).made.spot
+  abbrev r_of : Spot
+  r_of = r g held_of
+
+  abbrev dr : Content
+  dr = draft_of (nth 0 c.put.new.seat.view.holds)
+
+  abbrev cr : Content
+  cr = draft_of (nth 0 c.change.new.seat.view.holds)
 
   abbrev da : Content
-  da = draft_of (nth 0 c.change.new.seat.view.holds)
+  da = draft_of (nth 1 c.change.new.seat.view.holds)
 
-  held : Grips c.change.new.seat.view c.change.new.seat.book c.in-Some.words.now c.in-Some-lock_node.free (place_at a_of) da
-  held =
-      let others = c.change.ensures.seat.others in
-      let wrote = grip_wrote c.make_fork-new.new.pass.view c.make_fork-new.new.pass.book c.in-Some.words.now c.in-Some-lock_node.free (place_at a_of) (ca g read_of) (grip g made) c.change.new.seat.view (ap (λ s. s.view) others) in
-      subst (λ y. Grips c.change.new.seat.view y c.in-Some.words.now c.in-Some-lock_node.free (place_at a_of) da) (sym (ap (λ s. s.book) others)) wrote
+  wrote : Hold2 g held_of c.change.new.seat.view c.change.new.seat.book dr da
+  wrote = let others = c.change.ensures.seat.others in pair_wrote _ _ _ _ _ _ _ _ _ _ (filled g made) c.change.new.seat.view c.change.new.seat.book (ap (λ s. s.book) others) (ap (λ s. s.view) others)
 
-  links : acts.Frees IsMap c.change.new.seat.id c.change.new.seat.view.client a_of.number (c.in-Some-lock_node.free + 4) da (Links c.change.new.seat.view.client a_of.number da)
+  same_draft : cr ≡ dr
+  same_draft = first_draft _ _ _ _ _ _ _ _ _ _ wrote
+
+  same_client : c.change.new.seat.view.client ≡ c.parts.new.seat.view.client
+  same_client = ap (λ s. s.view.client) c.change.ensures.seat.others ∙ (ap (λ s. s.view.client) c.put.ensures.seat.others ∙ ap (λ s. s.view.client) c.lay.ensures.seat.others)
+
+  all_own : c.change.new.seat.view.client.own ≡ detached r_of ∷ locked a_of (ca g held_of) ∷ []
+  all_own = ap (λ (k : View). k.own) same_client ∙ own_then g (parted g made)
+
+  links : acts.Frees IsMap c.change.new.seat.id c.change.new.seat.view.client a_of.number (c.in-Some-lock_node.free + 4) da (LinksAgain g.A.Asks.ask cr c.change.new.seat.view.client a_of.number da)
   links =
       let q = g.A.Asks.ask in
-      let asks = c.requires.asks in
-      let h = above g (first g read_of) in
-      let form = above_form g (first g read_of) in
-      let f = forked g made in
-      let client = ap (λ s. s.view.client) c.change.ensures.seat.others in
-      let own = ap (λ (e : View). e.own) client ∙ own_then g made in
-      let digit_is = c.byte_at-byte.ensures ∙ ap (λ (e : ℕ × ℕ). digit e.0 e.1) (λ i. (sym h.names.high i, sym asks.0 i)) in
-      let covers = ap (up a_of.shape.height) asks.0 ∙ h.names.covers in
+      let n = c.change.new.seat.view in
+      let h = above g (first g held_of) in
+      let form = above_form g (first g held_of) in
       let has = c.leads_to.ensures.some (search rules) in
-      let before = above_drafted g (first g read_of) in
-      let under = has.1 h.its (subst (λ e. Encodes e h.its) (sym before) h.encodes) (h.in_form ∙ sym form) in
-      let there = λ (none : lookup h.its.children c.byte_at-byte.result ≡ None). subst (λ (e : Option (Child ℕ)). IsBelow e (Some has.0)) none under in
-      let was = drafted g made in
-      let draft = draft_of (nth 0 c.make_fork-new.new.pass.view.holds) in
-      let changed = change_done c.change.result h.content draft was h.its h.encodes c.form_below-form.result (h.in_form ∙ sym form) c.byte_at-byte.result there c.change.ensures.was in
-      let changes = grown_changes q h.content draft was da c.form_below-form.result a_of y_of c.byte_at-byte.result digit_is form c.word_below.result c.make_fork-new.result c.word_below.ensures.child f.made.named c.args.height h.names.high c.requires.height.0 (at_result c.change.result changed c.change.ensures.is) in
-      let number_is : first_held c.leads_to.new.seat.view.holds ≡ a_of.number = ap (λ s. first_held s.view.holds) c.leads_to.ensures.seat.same ∙ ap first_held (above_held g (first g read_of)).holds in
-      let l = subst (λ (i : ℕ). IsParted c.parts.new.pass.view c.args.fork.below c.args.key c.args.fork.at c.args.fork.byte i) number_is (c.parts.ensures.parted (search rules)) in
+      let drafted = above_drafted g (first g held_of) in
+      let asks = c.requires.asks in
+      let at = c.args.mismatch.at in
+      let number_is = ap (number_at 1) (both g held_of).holds in
+      let l = subst (λ (i : ℕ). IsParted c.parts.new.seat.view c.args.mismatch.below c.args.key at c.args.mismatch.byte i) number_is (c.parts.ensures.parted (search rules)) in
       let x = l.spot in
-      let named = λ (n : TableNode ℕ) (encodes : Encodes h.content n) (formed : n.form ≡ a_of.shape.form). subst (λ e. IsBelow (lookup n.children e) (Some has.0)) digit_is (has.1 n (subst (λ e. Encodes e n) (sym before) encodes) (formed ∙ sym form)) in
-      let spells = λ (s : ℕ) (e : IsWord has.0 (Node s)). has.2 s e ∙ l.named in
-      let known : IsIn (watch a_of.number None x) c.change.new.seat.view.client.watched = subst (λ (e : View). IsIn (watch a_of.number None x) e.watched) (sym (client ∙ f.made.client)) l.known in
-      let high_y = f.made.high ∙ asks.1 in
-      let high_a = h.names.high in
+      let some = l.some_height in
       let lower = l.lower in
-      let up_y : up c.args.fork.at c.args.key ≡ y_of.shape.top = ap (λ (e : ℕ × ℕ). up e.0 e.1) (λ i. (sym high_y i, sym asks.0 i)) ∙ f.made.covers in
-      let y_top : way x.shape y_of.shape.height ≡ y_of.shape.top = ap (way x.shape) high_y ∙ (l.top ∙ up_y) in
-      let y_byte : way x.shape (y_of.shape.height - 1) ≡ 256 * y_of.shape.top + c.args.fork.byte = ap (λ (e : ℕ). way x.shape (e - 1)) high_y ∙ (l.byte_is ∙ ap (λ (e : ℕ). 256 * e + c.args.fork.byte) up_y) in
-      let fork : IsFork y_of x c.args.fork.byte f.content = record {
-        its = f.its;
-        encodes = f.encodes;
-        in_form = f.its_form ∙ sym f.made.in_form;
-        deep = ap (λ e. length f.its.prefix + e) f.made.high ∙ f.deep;
-        prefixed = f.prefixed;
-        one = f.one ∙ ap (λ (e : ℕ). put [] c.args.fork.byte (Node e)) l.named;
-      } in
+      let bytes = c.bytes_of-bytes.result in
+      let short : length (take (8 - at) bytes) ≡ 8 - at = (let k = length-take (8 - at) bytes in let o = c.bytes_of-bytes.ensures.long in omega (arith, k, o)) in
+      let few : length (take (8 - at) bytes) < 7 = omega (arith, short, some, lower) in
+      let is = c.put.ensures.is (empty_node c.form_below-kind.result (take (8 - at) bytes)) (Node c.args.mismatch.below) c.lay.ensures.is refl c.word_below-child.ensures.child few refl in
+      let mismatch = again_split q r_of x c.args.key at bytes c.bytes_of-bytes.ensures.long c.bytes_of-bytes.ensures.is c.ranges.key.fits asks.0 asks.1 (omega (arith, some, lower)) c.requires.leaves.level c.form_below-kind.result (back_form g held_of) cr c.args.mismatch.byte c.args.mismatch.below l.named
+      (subst (λ k. Encodes k (with_child (empty_node c.form_below-kind.result (take (8 - at) bytes)) c.args.mismatch.byte (Some (Node c.args.mismatch.below)))) (sym same_draft) is) in
+      let digit_is = c.byte_at-byte.ensures ∙ ap (λ (k : ℕ × ℕ). digit k.0 k.1) (λ i. (sym h.names.high i, sym asks.0 i)) in
+      let covers = ap (up a_of.shape.height) asks.0 ∙ h.names.covers in
+      let under = has.1 h.its (subst (λ k. Encodes k h.its) (sym drafted) h.encodes) (h.in_form ∙ sym form) in
+      let there = λ (none : lookup h.its.children c.byte_at-byte.result ≡ None). subst (λ (k : Option (Child ℕ)). IsBelow k (Some has.0)) none under in
+      let was = above_was g made in
+      let before = draft_of (nth 1 c.put.new.seat.view.holds) in
+      let changed = change_done c.change.result h.content before was h.its h.encodes c.form_below-form.result (h.in_form ∙ sym form) c.byte_at-byte.result there c.change.ensures.was in
+      let changes = grown_changes q h.content before was da c.form_below-form.result a_of (again q r_of) c.byte_at-byte.result digit_is form c.word_below.result c.args.spare c.word_below.ensures.child (back g held_of).named c.args.height h.names.high c.requires.height.0 (at_result c.change.result changed c.change.ensures.is) in
+      let named = λ (k : TableNode ℕ) (encodes : Encodes h.content k) (formed : k.form ≡ a_of.shape.form). subst (λ o. IsBelow (lookup k.children o) (Some has.0)) digit_is (has.1 k (subst (λ o. Encodes o k) (sym drafted) encodes) (formed ∙ sym form)) in
+      let spells = λ (i : ℕ) (k : IsWord has.0 (Node i)). has.2 i k ∙ l.named in
+      let known : IsIn (watch a_of.number None x) n.client.watched = subst (λ (k : View). IsIn (watch a_of.number None x) k.watched) (sym same_client) l.known in
+      let high_a = h.names.high in
+      let up_y : up at c.args.key ≡ up q.height q.key = ap (λ (k : ℕ × ℕ). up k.0 k.1) (λ i. (sym asks.1 i, sym asks.0 i)) in
+      let y_top : bytes_above x.shape q.height ≡ up q.height q.key = ap (bytes_above x.shape) asks.1 ∙ (l.top ∙ up_y) in
+      let y_byte : bytes_above x.shape (q.height - 1) ≡ 256 * up q.height q.key + c.args.mismatch.byte = ap (λ (k : ℕ). bytes_above x.shape (k - 1)) asks.1 ∙ (l.byte_is ∙ ap (λ (k : ℕ). 256 * k + c.args.mismatch.byte) up_y) in
       let long = c.change.ensures.long ∙ ap words_of form in
-      let inside = c.if-fork-height.false in
+      let inside = c.if-mismatch-height.false in
       let even = h.even in
-      link_above c.change.new.seat.id c.change.new.seat.view.client q.key y_of x a_of c.args.fork.byte f.content h.content own known (c.in-Some-lock_node.free + 4) (c.in-Some-lock_node.free / 4 + 1) (omega (arith, even)) da
-      (omega (arith, high_y, high_a, inside)) l.some_height (omega (arith, lower, high_y)) f.made.covers covers y_top l.low y_byte long changes has.0 named spells fork
+      link_above q c.change.new.seat.id n.client r_of x a_of c.args.mismatch.byte cr h.content all_own known (c.in-Some-lock_node.free + 4) (c.in-Some-lock_node.free / 4 + 1) (omega (arith, even)) da
+      (omega (arith, asks.1, high_a, inside)) some (omega (arith, lower, asks.1)) covers y_top l.low y_byte long changes has.0 named spells mismatch
+
+-- it is in use
+module _ (g : Over) (c : After-unlock_again g) where
+  abbrev led : After-change g
+  led = (goal.at.After-unlock_again g c).After-change
+
+  linked : (e : View) × (c.unlock_again.new.seat.view ≡ seat_view e c.change.new.seat.view.places c.change.new.seat.view.reads (hold (r_of g led).number (c.in-Some-reclaim.back + 2) (dr g led) ∷ []) c.change.new.seat.view.room) × LinksAgain g.A.Asks.ask (cr g led) c.change.new.seat.view.client (a_of g led).number (da g led) e
+  linked =
+      let at_a = (first_word (place_at (a_of g led)) c.change.new.seat.book c.in-Some.words.now (wrote g led).are_p c.index-words-0.result c.index-words-0.result (sym c.index-words-0.is)).0 in
+      pair_freed _ _ _ _ _ _ _ _ _ _ (wrote g led) c.index-words-0.result.key at_a (LinksAgain g.A.Asks.ask (cr g led)) c.unlock_again.new.seat.view (c.in-Some-lock_node.free + 4) c.unlock_again.ensures.told
+
+  grip : Grips c.unlock_again.new.seat.view c.unlock_again.new.seat.book c.in-Some-words_at.others.now c.in-Some-reclaim.back (place_at (r_of g led)) (dr g led)
+  grip = record {
+    holds = ap (λ (k : Seen). k.holds) linked.1;
+    placed = subst (λ (ps : List Place). IsIn (place_at (r_of g led)) ps) (sym (ap (λ (k : Seen). k.places) linked.1)) (wrote g led).placed_x;
+    are = subst (λ k. AreOf (place_at (r_of g led)) k c.in-Some-words_at.others.now) (sym c.unlock_again.ensures.seat.0) (wrote g led).are_x;
+  }
 
 pub leads_to-requires-clause-may : goal.leads_to-requires-clause-may
 leads_to-requires-clause-may g c =
     let k = (goal.at.leads_to-requires-clause-may g c).In-Some-lock_node in
     let h = above g k in
-    may_hold c.lock_node.new.pass.view c.lock_node.new.pass.book c.in-Some.words.now c.in-Some-lock_node.free h.names.spot h.content h.content (above_held g k) h.long
+    may_hold c.lock_node.new.seat.view c.lock_node.new.seat.book c.in-Some.words.now c.in-Some-lock_node.free h.names.spot h.content h.content (above_held g k) h.long
 
 pub leads_to-requires-clause-long : goal.leads_to-requires-clause-long
 leads_to-requires-clause-long g c =
     let k = (goal.at.leads_to-requires-clause-long g c).In-Some-lock_node in
     ap (λ (z : List ℕ). length z) (above_drafted g k) ∙ ((above g k).long ∙ ap words_of (sym (above_form g k)))
 
-pub unlock_same-requires-clause-holds : goal.unlock_same-requires-clause-holds
-unlock_same-requires-clause-holds g c =
-    let k = (goal.at.unlock_same-requires-clause-holds g c).In-Some-lock_node in
-    let h = above g k in
-    (h.names.spot, h.content, subst (λ s. HoldsOne s.view s.book c.in-Some.words.now c.in-Some-lock_node.free h.names.spot h.content h.content) (sym c.leads_to.ensures.seat.same) (above_held g k))
-
 pub parts-requires-clause-book : goal.parts-requires-clause-book
-parts-requires-clause-book g c = ap (λ s. s.book) c.leads_to.ensures.seat.same ∙ (c.lock_node.ensures.told.0 ∙ c.requires.book)
+parts-requires-clause-book g c = back_book g (goal.at.parts-requires-clause-book g c).In-Some-reclaim ∙ c.requires.book
 
 pub parts-requires-clause-below : goal.parts-requires-clause-below
 parts-requires-clause-below g c =
-    let h = above g (goal.at.parts-requires-clause-below g c).In-Some-lock_node in
-    let n = c.requires.leaves.sighted in
-    subst (λ s. Sights s.view c.args.fork.below) (sym c.leads_to.ensures.seat.same) record {
+    let alike = back_alike g (goal.at.parts-requires-clause-below g c).In-Some-reclaim in
+    (let n = c.requires.leaves.sighted in record {
       spot = n.spot;
-      met = subst (λ l. IsIn n.spot l) (sym h.alike.met) n.met;
-      placed = subst (λ l. IsIn (place_at n.spot) l) (sym h.alike.places) n.placed;
+      met = subst (λ l. IsIn n.spot l) (sym alike.met) n.met;
+      placed = subst (λ l. IsIn (place_at n.spot) l) (sym alike.places) n.placed;
       named = n.named;
-    }
+    })
 
 pub parts-requires-clause-above : goal.parts-requires-clause-above
 parts-requires-clause-above g c =
-    let k = (goal.at.parts-requires-clause-above g c).In-Some-lock_node in
-    let h = above g k in
-    let same = c.leads_to.ensures.seat.same in
+    let k = (goal.at.parts-requires-clause-above g c).In-Some-reclaim in
+    let h = above g (first g k) in
     let has = c.leads_to.ensures.some (search rules) in
     record {
-      spot = h.names.spot;
+      spot = a g k;
       content = h.content;
-      own = subst (IsIn (locked h.names.spot h.content)) (sym (ap (λ s. s.view.client.own) same ∙ (above_held g k).own)) (inl refl);
+      own = subst (IsIn (locked (a g k) h.content)) (sym (back_own g k)) (inr (inl refl));
       tall = subst (λ (e : ℕ). 2 ≤ e) (sym h.names.high) c.requires.height.0;
       byte = c.byte_at-byte.result;
       low = c.byte_at-byte.type_inv;
       child = has.0;
-      finds = λ n encodes formed. has.1 n (subst (λ e. Encodes e n) (sym (above_drafted g k)) encodes) (formed ∙ sym (above_form g k));
+      finds = λ n encodes formed. has.1 n (subst (λ e. Encodes e n) (sym (above_drafted g (first g k))) encodes) (formed ∙ sym (above_form g (first g k)));
       spells = has.2;
-      numbered = ap (λ s. first_held s.view.holds) same ∙ ap first_held (above_held g k).holds;
+      numbered = ap (number_at 1) (both g k).holds;
       held = refl;
     }
 
+pub retire-requires-clause-frees : goal.retire-requires-clause-frees
+retire-requires-clause-frees g c =
+    let k = (goal.at.retire-requires-clause-frees g c).After-parts in
+    let b = second g k in
+    let z = both_then g k in
+    let h = back g b in
+    let even = h.even in
+    let at_r = (first_word (place_at (r g b)) c.parts.new.seat.book c.in-Some-words_at.others.now z.are_x c.index-others-0.result c.index-others-0.result (sym c.index-others-0.is)).0 in
+    let retires = node_retires c.parts.new.seat.id c.parts.new.seat.view.client (r g b) (locked (a g b) (ca g b) ∷ []) (own_then g k) (z.apart, tt) (c.in-Some-reclaim.back + 3) (c.in-Some-reclaim.back / 4) (omega (arith, even)) h.content h.long in
+    first_frees c.parts.new.seat.view (r g b) c.in-Some-reclaim.back h.content (hold (a g b).number (c.in-Some-lock_node.free + 2) (ca g b) ∷ []) z.holds z.placed_x c.index-others-0.result.key at_r StaysSame c.parts.new.seat.id (c.in-Some-reclaim.back + 3) retires
+
 pub unlock_same-requires-then-not-parts-clause-holds : goal.unlock_same-requires-then-not-parts-clause-holds
 unlock_same-requires-then-not-parts-clause-holds g c =
-    let k = (goal.at.unlock_same-requires-then-not-parts-clause-holds g c).After-parts in
-    (a g k, ca g k, one g k)
+    let k = (goal.at.unlock_same-requires-then-not-parts-clause-holds g c).After-retire in
+    let z = both_then g (read_of g k) in
+    let f = retired g k in
+    let one : HoldsOne c.retire.new.seat.view c.retire.new.seat.book c.in-Some.words.now c.in-Some-lock_node.free (a g (two_of g k)) (ca g (two_of g k)) (ca g (two_of g k)) = record {
+      own = ap (λ (v : Seen). v.client.own) f.1 ∙ (ap (λ (v : View). v.own) f.2 ∙ ap rest_of (own_then g (read_of g k)));
+      holds = ap (λ (v : Seen). v.holds) f.1;
+      placed = subst (λ (ps : List Place). IsIn (place_at (a g (two_of g k))) ps) (sym (ap (λ (v : Seen). v.places) f.1)) z.placed_p;
+      are = subst (λ b. AreOf (place_at (a g (two_of g k))) b c.in-Some.words.now) (sym c.retire.ensures.seat.0) z.are_p;
+    } in
+    (a g (two_of g k), ca g (two_of g k), one)
 
-pub returns-then-not-parts : goal.returns-then-not-parts
-returns-then-not-parts g c =
-    let k = (goal.at.returns-then-not-parts g c).After-parts in
-    let h = above g (first g k) in
-    let n = keeps g k in
-    let left = c.args.room.now.left in
-    let start = c.args.room.now.start in
-    let e = c.unlock_same-then-not-parts.ensures.told in
-    record {
-      told = (
-        e.0 ∙ (same_book g k ∙ c.lock_node.ensures.told.0),
-        e.1 ∙ id_then g k,
-        record {
-          own = e.2.own;
-          holds = e.2.holds;
-          places = λ p i. subst (λ l. IsIn p l) (sym e.2.alike.places) (n.places p (subst (λ l. IsIn p l) (sym h.alike.places) i));
-          met = λ s i. subst (λ l. IsIn s l) (sym e.2.alike.met) (n.met s (subst (λ l. IsIn s l) (sym h.alike.met) i));
-          seen = e.3 ∙ seen_then g k;
-        },
-        room_after c.args.pass.now.view c.unlock_same-then-not-parts.new.pass.view start left start left (e.2.alike.room ∙ (n.room ∙ h.alike.room)) refl (omega arith) c.requires.room,
-        refl,
-      );
-    }
+pub returns-then-not-parts-clause-told : goal.returns-then-not-parts-clause-told
+returns-then-not-parts-clause-told g c =
+    let k = (goal.at.returns-then-not-parts-clause-told g c).After-retire in
+    let b = two_of g k in
+    let f = retired g k in
+    let alike = back_alike g b in
+    let pt = c.parts.ensures.told in
+    let keeps = pt.2 in
+    let ys = c.retire.ensures.seat in
+    let e = c.unlock_same-then-not-parts.ensures.told in (
+      e.0 ∙ (ys.0 ∙ (pt.0 ∙ back_book g b)),
+      e.1 ∙ (ys.1 ∙ (pt.1 ∙ back_id g b)),
+      record {
+        own = e.2.own;
+        holds = e.2.holds;
+        places = λ i m. subst (λ (ls : List Place). IsIn i ls) (sym (e.2.alike.places ∙ ap (λ (v : Seen). v.places) f.1)) (keeps.places i (subst (λ (ls : List Place). IsIn i ls) (sym alike.places) m));
+        met = λ i m. subst (λ (ls : List Spot). IsIn i ls) (sym (e.2.alike.met ∙ (ap (λ (v : Seen). v.client.met) f.1 ∙ ap (λ (v : View). v.met) f.2))) (keeps.met i (subst (λ (ls : List Spot). IsIn i ls) (sym alike.met) m));
+        seen = e.3 ∙ (ap (λ (v : Seen). v.client.seen) f.1 ∙ (ap (λ (v : View). v.seen) f.2 ∙ (pt.3 ∙ back_seen g b)));
+      },
+      e.2.alike.room ∙ (ap (λ (v : Seen). v.room) f.1 ∙ (keeps.room ∙ alike.room)),
+    )
 
-pub make_fork-new-requires-clause-room : goal.make_fork-new-requires-clause-room
-make_fork-new-requires-clause-room g c =
-    (c.args.room.now.left, room_then g (goal.at.make_fork-new-requires-clause-room g c).After-parts, (let n : 263 ≤ c.args.room.now.left = search rules in omega (arith, n)))
+pub returns-then-not-parts-clause-free_nodes : goal.returns-then-not-parts-clause-free_nodes
+returns-then-not-parts-clause-free_nodes g c =
+    λ v h s. c.keep.ensures.kept v (c.forget.ensures.left v h) s
+
+pub returns-in_default-reclaim-clause-free_nodes : goal.returns-in_default-reclaim-clause-free_nodes
+returns-in_default-reclaim-clause-free_nodes g c =
+    λ v h s. c.forget.ensures.left v h
+
+pub returns-clause-free_nodes : goal.returns-clause-free_nodes
+returns-clause-free_nodes g c =
+    λ v h s. c.forget.ensures.left v h
+
+pub lay-requires-clause-may : goal.lay-requires-clause-may
+lay-requires-clause-may g c =
+    let k = (goal.at.lay-requires-clause-may g c).After-parts in
+    pair_first _ _ _ _ _ _ _ _ _ _ (both_then g k) (back g (second g k)).long
+
+pub lay-requires-clause-long : goal.lay-requires-clause-long
+lay-requires-clause-long g c =
+    let k = (goal.at.lay-requires-clause-long g c).After-parts in
+    ap (λ (z : List ℕ). length z) (first_draft _ _ _ _ _ _ _ _ _ _ (both_then g k)) ∙ ((back g (second g k)).long ∙ ap words_of (sym (back_form g (second g k))))
 
 pub change-requires-clause-may : goal.change-requires-clause-may
 change-requires-clause-may g c =
-    let k = (goal.at.change-requires-clause-may g c).After-make_fork-new in
-    let p = parted g k in
-    grip_holds c.make_fork-new.new.pass.view c.make_fork-new.new.pass.book c.in-Some.words.now c.in-Some-lock_node.free (place_at (a g p)) (ca g p) (grip g k) (above g (first g p)).long
+    let k = (goal.at.change-requires-clause-may g c).After-put in
+    pair_second _ _ _ _ _ _ _ _ _ _ (filled g k) (above g (first g (second g (parted g k)))).long
 
 pub change-requires-clause-long : goal.change-requires-clause-long
 change-requires-clause-long g c =
-    let k = (goal.at.change-requires-clause-long g c).After-make_fork-new in
-    let f = first g (parted g k) in
-    ap (λ (e : List ℕ). length e) (drafted g k) ∙ ((above g f).long ∙ ap words_of (sym (above_form g f)))
+    let k = (goal.at.change-requires-clause-long g c).After-put in
+    let f = first g (second g (parted g k)) in
+    ap (λ (z : List ℕ). length z) (above_was g k) ∙ ((above g f).long ∙ ap words_of (sym (above_form g f)))
+
+pub unlock_again-requires-clause-frees : goal.unlock_again-requires-clause-frees
+unlock_again-requires-clause-frees g c =
+    let k = (goal.at.unlock_again-requires-clause-frees g c).After-change in
+    let at_a = (first_word (place_at (a_of g k)) c.change.new.seat.book c.in-Some.words.now (wrote g k).are_p c.index-words-0.result c.index-words-0.result (sym c.index-words-0.is)).0 in
+    pair_frees _ _ _ _ _ _ _ _ _ _ (wrote g k) c.index-words-0.result.key at_a (LinksAgain g.A.Asks.ask (cr g k)) c.change.new.seat.id (c.in-Some-lock_node.free + 4) (links g k)
 
 pub unlock-requires-clause-frees : goal.unlock-requires-clause-frees
 unlock-requires-clause-frees g c =
-    let k = (goal.at.unlock-requires-clause-frees g c).After-change in
-    let at_a = (first_word (place_at (a_of g k)) c.change.new.seat.book c.in-Some.words.now (held g k).are c.index-words-0.result c.index-words-0.result (sym c.index-words-0.is)).0 in
-    grip_frees c.change.new.seat.view c.change.new.seat.book c.in-Some.words.now c.in-Some-lock_node.free (place_at (a_of g k)) (da g k) (held g k) c.index-words-0.result.key at_a Links c.change.new.seat.id (c.in-Some-lock_node.free + 4) (links g k)
+    let u = (goal.at.unlock-requires-clause-frees g c).After-unlock_again in
+    let k = led g u in
+    let l = linked g u in
+    let even = (back g (held_of g k)).even in
+    let at_r = (first_word (place_at (r_of g k)) c.unlock_again.new.seat.book c.in-Some-words_at.others.now (grip g u).are c.index-others-0-2.result c.index-others-0-2.result (sym c.index-others-0-2.is)).0 in
+    let own = ap (λ (v : Seen). v.client.own) l.1 ∙ (ap (λ (v : View). v.own) l.2 ∙ ap (left_again g.A.Asks.ask (cr g k)) (all_own g k)) in
+    let stays = node_stays c.unlock_again.new.seat.id c.unlock_again.new.seat.view.client (again g.A.Asks.ask (r_of g k)) (cr g k) [] own tt (c.in-Some-reclaim.back + 4) (c.in-Some-reclaim.back / 4 + 1) (omega (arith, even)) (dr g k) (sym (same_draft g k)) in
+    grip_frees c.unlock_again.new.seat.view c.unlock_again.new.seat.book c.in-Some-words_at.others.now c.in-Some-reclaim.back (place_at (r_of g k)) (dr g k) (grip g u) c.index-others-0-2.result.key at_r StaysSame c.unlock_again.new.seat.id (c.in-Some-reclaim.back + 4) stays
 
-pub returns : goal.returns
-returns g c =
-    let k = (goal.at.returns g c).After-change in
-    let m = made g k in
-    let p = read_of g k in
-    let h = above g (first g p) in
-    let n = keeps g p in
-    let f = forked g m in
-    let r = c.change.ensures.seat.others in
-    let mt = c.make_fork-new.ensures.told in
+pub returns-clause-told : goal.returns-clause-told
+returns-clause-told g c =
+    let u = (goal.at.returns-clause-told g c).After-unlock_again in
+    let k = led g u in
+    let b = held_of g k in
+    let l = linked g u in
+    let alike = back_alike g b in
+    let keeps = c.parts.ensures.told.2 in
     let e = c.unlock.ensures.seat in
-    let at_a = (first_word (place_at (a_of g k)) c.change.new.seat.book c.in-Some.words.now (held g k).are c.index-words-0.result c.index-words-0.result (sym c.index-words-0.is)).0 in
-    let freed = grip_freed c.change.new.seat.view c.change.new.seat.book c.in-Some.words.now c.in-Some-lock_node.free (place_at (a_of g k)) (da g k) (held g k) c.index-words-0.result.key at_a Links c.unlock.new.seat.view (c.in-Some-lock_node.free + 4) c.unlock.ensures.told in
-    let grown = has_grown_on c.args.pass.now.view c.parts.new.pass.view c.make_fork-new.new.pass.view c.change.new.seat.view c.unlock.new.seat.view freed.0 (a_of g k) (y_of g k) h.content f.content
-    (λ q i. n.places q (subst (λ l. IsIn q l) (sym h.alike.places) i)) (λ s i. n.met s (subst (λ l. IsIn s l) (sym h.alike.met) i)) (seen_then g p) f.made.client f.made.places (ap (λ s. s.view.client) r) (ap (λ s. s.view.places) r) (own_then g m) freed.1 freed.2 in
-    let left = c.args.room.now.left in
-    let start = c.args.room.now.start in
-    let after = c.make_fork-new.ensures.room left (room_then g p) (let w : 263 ≤ left = search rules in omega (arith, w)) in
-    let n2 = c.words_in-2.ensures in
-    let n3 = c.words_in-3.ensures in
-    record {
-      told = (
-        e.0 ∙ (ap (λ s. s.book) r ∙ (mt.0 ∙ (same_book g p ∙ c.lock_node.ensures.told.0))),
-        e.1 ∙ (ap (λ s. s.id) r ∙ (mt.1 ∙ id_then g p)),
-        grown,
-        room_after c.make_fork-new.new.pass.view c.unlock.new.seat.view (start + words_of N4 + 1) (left - (words_of N4 + 1)) (start + (c.words_in-2.result + 1)) (left - (c.words_in-3.result + 1))
-            (ap (λ (s : Seen). s.room) freed.1 ∙ ap (λ s. s.view.room) r) (omega (arith, n2)) (omega (arith, n3)) after,
-        refl,
-      );
-    }
+    let pr = c.change.ensures.seat.others in
+    let mr = c.put.ensures.seat.others in
+    let fr = c.lay.ensures.seat.others in
+    let at_r = (first_word (place_at (r_of g k)) c.unlock_again.new.seat.book c.in-Some-words_at.others.now (grip g u).are c.index-others-0-2.result c.index-others-0-2.result (sym c.index-others-0-2.is)).0 in
+    let fx = grip_freed c.unlock_again.new.seat.view c.unlock_again.new.seat.book c.in-Some-words_at.others.now c.in-Some-reclaim.back (place_at (r_of g k)) (dr g k) (grip g u) c.index-others-0-2.result.key at_r StaysSame c.unlock.new.seat.view (c.in-Some-reclaim.back + 4) c.unlock.ensures.told in
+    let places = ap (λ s. s.view.places) pr ∙ (ap (λ s. s.view.places) mr ∙ ap (λ s. s.view.places) fr) in
+    let room = ap (λ s. s.view.room) pr ∙ (ap (λ s. s.view.room) mr ∙ (ap (λ s. s.view.room) fr ∙ (keeps.room ∙ alike.room))) in
+    let in_places = λ (i : Place) (m : IsIn i c.args.seat.now.view.places). subst (λ (ps : List Place). IsIn i ps) (sym places) (keeps.places i (subst (λ (ps : List Place). IsIn i ps) (sym alike.places) m)) in
+    let in_met = λ (i : Spot) (m : IsIn i c.args.seat.now.view.client.met). subst (λ (ls : List Spot). IsIn i ls) (sym (ap (λ (v : View). v.met) (same_client g k))) (keeps.met i (subst (λ (ls : List Spot). IsIn i ls) (sym alike.met) m)) in
+    let seen = ap (λ (v : View). v.seen) (same_client g k) ∙ (c.parts.ensures.told.3 ∙ back_seen g b) in
+    let grown = again_grown_on c.args.seat.now.view c.change.new.seat.view c.unlock_again.new.seat.view c.unlock.new.seat.view l.0 fx.0 g.A.Asks.ask (cr g k) (r_of g k) (a_of g k) (ca g b) (hold (r_of g k).number (c.in-Some-reclaim.back + 2) (dr g k) ∷ []) in_places in_met seen (all_own g k) l.1 l.2 fx.1 fx.2 in (
+      e.0 ∙ (c.unlock_again.ensures.seat.0 ∙ (ap (λ s. s.book) pr ∙ (ap (λ s. s.book) mr ∙ (ap (λ s. s.book) fr ∙ (c.parts.ensures.told.0 ∙ back_book g b))))),
+      e.1 ∙ (c.unlock_again.ensures.seat.1 ∙ (ap (λ s. s.id) pr ∙ (ap (λ s. s.id) mr ∙ (ap (λ s. s.id) fr ∙ (c.parts.ensures.told.1 ∙ back_id g b))))),
+      grown,
+      ap (λ (v : Seen). v.room) fx.1 ∙ (ap (λ (v : Seen). v.room) l.1 ∙ room),
+    )

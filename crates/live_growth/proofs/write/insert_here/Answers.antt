@@ -7,7 +7,7 @@ use Rattle.live_law.specs.Levels.{up, digit, place_at}
 use Rattle.live_law.specs.Views.{View, content_of, inserted}
 use Rattle.live_law.specs.Tree.{IsMap, Inserts, Answers}
 use Rattle.live_law.proofs.Writes.{leaf_inserts}
-use Rattle.live_reads.specs.Ways.{AreNamed}
+use Rattle.live_reads.specs.Paths.{AreNamed}
 use Rattle.live_growth.specs.Holds.{HasLocked, HoldsOne}
 use Rattle.live_reads.proofs.Views.{first_word}
 use Rattle.share_rule.specs.History.{Entry}
@@ -17,17 +17,17 @@ use Rattle.live_growth.proofs.write.insert_here.Goals as goal
 
 pub write-requires-clause-may : goal.write-requires-clause-may
 write-requires-clause-may g c =
-    let v = c.args.pass.now.view in
+    let v = c.args.seat.now.view in
     let name = c.args.name in
     let key = c.args.key in
     let words = c.in-Some.words.now in
     let free = c.in-Some-lock_node.free in
-    let w = c.lock_node.new.pass.view in
+    let w = c.lock_node.new.seat.view in
     let t = c.lock_node.ensures.told in
     let locked : c.lock_node.result ≡ Some free = search rules in
     let h = taken_by c.lock_node.result free locked (HasLocked v w name key 1) t.2 in
     let book = t.0 ∙ c.requires.book in
-    let b = c.lock_node.new.pass.book in
+    let b = c.lock_node.new.seat.book in
     let are = subst (λ z. AreNamed z name words) (sym book) c.in-Some.ensures in
     let one = holds_one v w name key 1 free h b words are c.requires.rests.0 c.requires.rests.1 in
     let a = h.names.spot in
@@ -36,17 +36,17 @@ write-requires-clause-may g c =
 
 pub write-requires-clause-long : goal.write-requires-clause-long
 write-requires-clause-long g c =
-    let v = c.args.pass.now.view in
+    let v = c.args.seat.now.view in
     let name = c.args.name in
     let key = c.args.key in
     let words = c.in-Some.words.now in
     let free = c.in-Some-lock_node.free in
-    let w = c.lock_node.new.pass.view in
+    let w = c.lock_node.new.seat.view in
     let t = c.lock_node.ensures.told in
     let locked : c.lock_node.result ≡ Some free = search rules in
     let h = taken_by c.lock_node.result free locked (HasLocked v w name key 1) t.2 in
     let book = t.0 ∙ c.requires.book in
-    let b = c.lock_node.new.pass.book in
+    let b = c.lock_node.new.seat.book in
     let are = subst (λ z. AreNamed z name words) (sym book) c.in-Some.ensures in
     let one = holds_one v w name key 1 free h b words are c.requires.rests.0 c.requires.rests.1 in
     let a = h.names.spot in
@@ -55,17 +55,17 @@ write-requires-clause-long g c =
 
 pub unlock_same-requires-clause-holds : goal.unlock_same-requires-clause-holds
 unlock_same-requires-clause-holds g c =
-    let v = c.args.pass.now.view in
+    let v = c.args.seat.now.view in
     let name = c.args.name in
     let key = c.args.key in
     let words = c.in-Some.words.now in
     let free = c.in-Some-lock_node.free in
-    let w = c.lock_node.new.pass.view in
+    let w = c.lock_node.new.seat.view in
     let t = c.lock_node.ensures.told in
     let locked : c.lock_node.result ≡ Some free = search rules in
     let h = taken_by c.lock_node.result free locked (HasLocked v w name key 1) t.2 in
     let book = t.0 ∙ c.requires.book in
-    let b = c.lock_node.new.pass.book in
+    let b = c.lock_node.new.seat.book in
     let are = subst (λ z. AreNamed z name words) (sym book) c.in-Some.ensures in
     let one = holds_one v w name key 1 free h b words are c.requires.rests.0 c.requires.rests.1 in
     let a = h.names.spot in
@@ -86,17 +86,17 @@ unlock_same-requires-clause-holds g c =
 
 pub returns-in_default-write : goal.returns-in_default-write
 returns-in_default-write g c =
-    let v = c.args.pass.now.view in
+    let v = c.args.seat.now.view in
     let name = c.args.name in
     let key = c.args.key in
     let words = c.in-Some.words.now in
     let free = c.in-Some-lock_node.free in
-    let w = c.lock_node.new.pass.view in
+    let w = c.lock_node.new.seat.view in
     let t = c.lock_node.ensures.told in
     let locked : c.lock_node.result ≡ Some free = search rules in
     let h = taken_by c.lock_node.result free locked (HasLocked v w name key 1) t.2 in
     let book = t.0 ∙ c.requires.book in
-    let b = c.lock_node.new.pass.book in
+    let b = c.lock_node.new.seat.book in
     let are = subst (λ z. AreNamed z name words) (sym book) c.in-Some.ensures in
     let one = holds_one v w name key 1 free h b words are c.requires.rests.0 c.requires.rests.1 in
     let a = h.names.spot in
@@ -114,7 +114,7 @@ returns-in_default-write g c =
       told = (
         e.0 ∙ (same_book ∙ t.0),
         e.1 ∙ (ap (λ s. s.id) r ∙ t.1),
-        record { own = e.2.own; holds = e.2.holds; alike = alike_then v u c.unlock_same.new.pass.view (alike_then v w u h.alike on.1) e.2.alike },
+        record { own = e.2.own; holds = e.2.holds; alike = alike_then v u c.unlock_same.new.seat.view (alike_then v w u h.alike on.1) e.2.alike },
         tt,
         e.3 ∙ (ap (λ (z : View). z.seen) on.2 ∙ h.seen),
       );
@@ -122,17 +122,17 @@ returns-in_default-write g c =
 
 pub unlock-requires-clause-frees : goal.unlock-requires-clause-frees
 unlock-requires-clause-frees g c =
-    let v = c.args.pass.now.view in
+    let v = c.args.seat.now.view in
     let name = c.args.name in
     let key = c.args.key in
     let words = c.in-Some.words.now in
     let free = c.in-Some-lock_node.free in
-    let w = c.lock_node.new.pass.view in
+    let w = c.lock_node.new.seat.view in
     let t = c.lock_node.ensures.told in
     let locked : c.lock_node.result ≡ Some free = search rules in
     let h = taken_by c.lock_node.result free locked (HasLocked v w name key 1) t.2 in
     let book = t.0 ∙ c.requires.book in
-    let b = c.lock_node.new.pass.book in
+    let b = c.lock_node.new.seat.book in
     let are = subst (λ z. AreNamed z name words) (sym book) c.in-Some.ensures in
     let one = holds_one v w name key 1 free h b words are c.requires.rests.0 c.requires.rests.1 in
     let a = h.names.spot in
@@ -161,17 +161,17 @@ unlock-requires-clause-frees g c =
 
 pub returns : goal.returns
 returns g c =
-    let v = c.args.pass.now.view in
+    let v = c.args.seat.now.view in
     let name = c.args.name in
     let key = c.args.key in
     let words = c.in-Some.words.now in
     let free = c.in-Some-lock_node.free in
-    let w = c.lock_node.new.pass.view in
+    let w = c.lock_node.new.seat.view in
     let t = c.lock_node.ensures.told in
     let locked : c.lock_node.result ≡ Some free = search rules in
     let h = taken_by c.lock_node.result free locked (HasLocked v w name key 1) t.2 in
     let book = t.0 ∙ c.requires.book in
-    let b = c.lock_node.new.pass.book in
+    let b = c.lock_node.new.seat.book in
     let are = subst (λ z. AreNamed z name words) (sym book) c.in-Some.ensures in
     let one = holds_one v w name key 1 free h b words are c.requires.rests.0 c.requires.rests.1 in
     let a = h.names.spot in

@@ -9,7 +9,7 @@ use Rattle.live_layout.proofs.change.is_full.Goals as goal
 
 pub returns-in-Some-clause-told : goal.returns-in-Some-clause-told
 returns-in-Some-clause-told g c = λ n e f.
-    let old = g.D.Draft.words c.args.draft.now c.args.seat.now in
+    let old = g.D.WriteWords.words c.args.draft.now c.args.seat.now in
     let o : limit c.args.form ≡ Some c.in-Some.room = sym c.room_of.ensures.is ∙ c.in-Some.is in
     let many : length n.children ≡ count old = encodes-counted old n e ∙ ap (λ k. counted (limit k) old) f ∙ ap (λ k. counted k old) o in
     let full : most (limit c.args.form) ≡ c.in-Some.room = ap most o in
@@ -17,7 +17,7 @@ returns-in-Some-clause-told g c = λ n e f.
 
 pub returns-in-None-clause-told : goal.returns-in-None-clause-told
 returns-in-None-clause-told g c = λ n e f.
-    let old = g.D.Draft.words c.args.draft.now c.args.seat.now in
+    let old = g.D.WriteWords.words c.args.draft.now c.args.seat.now in
     let o : limit c.args.form ≡ None = sym c.room_of.ensures.is ∙ c.in-None.is in
     let many : length n.children ≡ at old 1 = encodes-counted old n e ∙ ap (λ k. counted (limit k) old) f ∙ ap (λ k. counted k old) o in
     let full : most (limit c.args.form) ≡ 256 = ap most o in

@@ -7,8 +7,8 @@ use Rattle.live_layout.proofs.fill.gather_places.Goals as goal
 
 pub returns-clause-is : goal.returns-clause-is
 returns-clause-is g c = λ n e o.
-    let from = g.D.Draft.words c.args.from.now in
-    let new = g.E.Draft.words c.args.to.now c.gather.new.seat in
+    let from = g.D.WriteWords.words c.args.from.now in
+    let new = g.E.WriteWords.words c.args.to.now c.gather.new.seat in
     let kept = (c.requires.apart c.args.seat.now c.lay_head.new.seat c.lay_head.ensures.seat.others c.requires.may.0).1 in
     let head = subst (λ k. IsHead k (form_place c.args.other) n.prefix) (sym c.gather.ensures.head) (c.lay_head.ensures.is (form_place n.form) n.prefix e.head) in
     moved-encoded (from c.args.seat.now) new n c.args.other None (Some c.args.room) o c.requires.room.1 head (λ es h. c.gather.ensures.is es (subst (λ x. HasPlaces x es) (sym kept) h)) e

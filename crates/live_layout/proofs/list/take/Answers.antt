@@ -7,8 +7,8 @@ use Rattle.live_layout.proofs.list.take.Goals as goal
 
 pub returns-clause-is : goal.returns-clause-is
 returns-clause-is g c = λ es h.
-    let old = g.D.Draft.words c.args.draft.now c.args.seat.now in
-    let new = g.D.Draft.words c.args.draft.now c.store.new.seat in
+    let old = g.D.WriteWords.words c.args.draft.now c.args.seat.now in
+    let new = g.D.WriteWords.words c.args.draft.now c.store.new.seat in
     let n = c.count_of-last.result - 1 in
     let one = c.count_of-last.ensures.seat.kept in
     let two = c.key_at-byte.ensures.seat.kept ∙ one in

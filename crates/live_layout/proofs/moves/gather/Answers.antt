@@ -14,7 +14,7 @@ loop-b-init g c =
       same = apart.1;
       head = c.clear.ensures.head;
       long = c.clear.ensures.long ∙ c.requires.long.1;
-      is = λ es h. subst (HasList c.args.room (g.E.Draft.words c.args.to.now c.clear.new.seat)) (sym (between-none es h.ordered)) c.clear.ensures.is;
+      is = λ es h. subst (HasList c.args.room (g.E.WriteWords.words c.args.to.now c.clear.new.seat)) (sym (between-none es h.ordered)) c.clear.ensures.is;
     }
 
 pub loop-b-preserved : goal.loop-b-preserved
@@ -31,6 +31,6 @@ loop-b-preserved g c =
 
 pub returns-clause-is : goal.returns-clause-is
 returns-clause-is g c = λ es h.
-    let new = g.E.Draft.words c.args.to.now c.loop-b.seat in
+    let new = g.E.WriteWords.words c.args.to.now c.loop-b.seat in
     let end : c.loop-b.b ≡ 256 = omega arith in
     subst (HasList c.args.room new) (ap (between es 0) end ∙ between-all es h.ordered) (c.loop-b.invariant.is es h)

@@ -7,10 +7,10 @@ use Rattle.live_layout.proofs.moves.gather.Given as goal
 
 abbrev pub invariant-loop-b : goal.invariant-loop-b
 invariant-loop-b g l = record {
-  seat : Stays g.E.Draft.may_write g.E.Draft.rest l.to l.fn.seat l.seat;
-  from : g.D.Draft.may_write l.from l.seat;
-  same : g.D.Draft.words l.from l.seat ≡ g.D.Draft.words l.from l.fn.seat;
-  head : at (g.E.Draft.words l.to l.seat) 0 ≡ at (g.E.Draft.words l.to l.fn.seat) 0;
-  long : length (g.E.Draft.words l.to l.seat) ≡ first l.room + l.room;
-  is : (es : List (ℕ × ℕ)) → HasPlaces (g.D.Draft.words l.from l.fn.seat) es → HasList l.room (g.E.Draft.words l.to l.seat) (between es 0 l.b);
+  seat : Stays g.E.WriteWords.may_write g.E.WriteWords.rest l.to l.fn.seat l.seat;
+  from : g.D.WriteWords.may_write l.from l.seat;
+  same : g.D.WriteWords.words l.from l.seat ≡ g.D.WriteWords.words l.from l.fn.seat;
+  head : at (g.E.WriteWords.words l.to l.seat) 0 ≡ at (g.E.WriteWords.words l.to l.fn.seat) 0;
+  long : length (g.E.WriteWords.words l.to l.seat) ≡ first l.room + l.room;
+  is : (es : List (ℕ × ℕ)) → HasPlaces (g.D.WriteWords.words l.from l.fn.seat) es → HasList l.room (g.E.WriteWords.words l.to l.seat) (between es 0 l.b);
 }

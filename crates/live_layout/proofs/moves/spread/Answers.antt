@@ -9,8 +9,8 @@ use Rattle.live_layout.proofs.moves.spread.Goals as goal
 
 pub loop-i-preserved : goal.loop-i-preserved
 loop-i-preserved g c =
-    let from = g.D.Draft.words c.args.from.now c.args.seat.now in
-    let to = g.E.Draft.words c.args.to.now in
+    let from = g.D.WriteWords.words c.args.from.now c.args.seat.now in
+    let to = g.E.WriteWords.words c.args.to.now in
     let i = c.loop-i.i in
     let l = c.loop-i.invariant in
     let same : c.get-child.new.seat ≡ c.loop-i.seat = c.get-child.ensures.seat.same ∙ c.key_at-byte.ensures.seat.same in
@@ -34,7 +34,7 @@ loop-i-preserved g c =
 
 pub returns-clause-is : goal.returns-clause-is
 returns-clause-is g c = λ es h.
-    let from = g.D.Draft.words c.args.from.now c.args.seat.now in
+    let from = g.D.WriteWords.words c.args.from.now c.args.seat.now in
     let kept = (c.requires.apart c.args.seat.now c.clear.new.seat c.clear.ensures.seat.others c.requires.may.0).1 in
     let end : c.loop-i.i ≡ count from = omega (arith, c.loop-i-test.false, c.count_of-count.ensures.is, ap count kept) in
-    subst (HasPlaces (g.E.Draft.words c.args.to.now c.loop-i.seat)) (ap (entered c.args.room from) end ∙ entered-all h) (c.loop-i.invariant.is es h)
+    subst (HasPlaces (g.E.WriteWords.words c.args.to.now c.loop-i.seat)) (ap (entered c.args.room from) end ∙ entered-all h) (c.loop-i.invariant.is es h)

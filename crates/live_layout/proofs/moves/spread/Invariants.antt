@@ -7,11 +7,11 @@ use Rattle.live_layout.proofs.moves.spread.Given as goal
 
 abbrev pub invariant-loop-i : goal.invariant-loop-i
 invariant-loop-i g l = record {
-  seat : Stays g.E.Draft.may_write g.E.Draft.rest l.to l.fn.seat l.seat;
-  from : g.D.Draft.may_write l.from l.seat;
-  same : g.D.Draft.words l.from l.seat ≡ g.D.Draft.words l.from l.fn.seat;
-  head : at (g.E.Draft.words l.to l.seat) 0 ≡ at (g.E.Draft.words l.to l.fn.seat) 0;
-  long : length (g.E.Draft.words l.to l.seat) ≡ 262;
-  counts : at (g.E.Draft.words l.to l.seat) 1 ≡ l.i;
-  is : (es : List (ℕ × ℕ)) → HasList l.room (g.D.Draft.words l.from l.fn.seat) es → HasPlaces (g.E.Draft.words l.to l.seat) (entered l.room (g.D.Draft.words l.from l.fn.seat) l.i);
+  seat : Stays g.E.WriteWords.may_write g.E.WriteWords.rest l.to l.fn.seat l.seat;
+  from : g.D.WriteWords.may_write l.from l.seat;
+  same : g.D.WriteWords.words l.from l.seat ≡ g.D.WriteWords.words l.from l.fn.seat;
+  head : at (g.E.WriteWords.words l.to l.seat) 0 ≡ at (g.E.WriteWords.words l.to l.fn.seat) 0;
+  long : length (g.E.WriteWords.words l.to l.seat) ≡ 262;
+  counts : at (g.E.WriteWords.words l.to l.seat) 1 ≡ l.i;
+  is : (es : List (ℕ × ℕ)) → HasList l.room (g.D.WriteWords.words l.from l.fn.seat) es → HasPlaces (g.E.WriteWords.words l.to l.seat) (entered l.room (g.D.WriteWords.words l.from l.fn.seat) l.i);
 }

@@ -1,5 +1,5 @@
 use Rattle.std.proofs.Common.{◌≡◌, ℕ, ◌<◌, ◌≤◌, List, take, drop, length}
-use Rattle.node_table.specs.TableNode.{TableNode}
+use Rattle.spec_node.specs.TableNode.{TableNode}
 use Rattle.live_layout.specs.Words.{Stays}
 use Rattle.live_layout.specs.Encodes.{Encodes}
 use Rattle.live_layout.specs.Page.{AreListed, pairs_of}
@@ -7,11 +7,11 @@ use Rattle.live_layout.proofs.page.fill.Given as goal
 
 abbrev pub invariant-loop-place : goal.invariant-loop-place
 invariant-loop-place g l = record {
-  seat : Stays g.R.Cells.may_read g.R.Cells.rest l.cells l.fn.seat l.seat;
-  kept : (c : List ℕ) → g.R.Cells.agrees l.cells l.seat c → g.R.Cells.agrees l.cells l.fn.seat c;
+  seat : Stays g.R.ReadWords.may_read g.R.ReadWords.rest l.cells l.fn.seat l.seat;
+  kept : (c : List ℕ) → g.R.ReadWords.agrees l.cells l.seat c → g.R.ReadWords.agrees l.cells l.fn.seat c;
   low : l.part.first ≤ l.from;
   high : l.from ≤ l.part.last;
   begun : l.start < l.place → l.part.first < l.from;
   before : take l.start (pairs_of g.P.RangeEntry.pair l.buffer) ≡ take l.start (pairs_of g.P.RangeEntry.pair l.fn.buffer);
-  is : (c : List ℕ) (n : TableNode ℕ) → g.R.Cells.agrees l.cells l.seat c → Encodes c n → n.form ≡ l.form → length n.prefix ≡ 7 → AreListed n l.part.base l.part.first l.from (drop l.start (take l.place (pairs_of g.P.RangeEntry.pair l.buffer)));
+  is : (c : List ℕ) (n : TableNode ℕ) → g.R.ReadWords.agrees l.cells l.seat c → Encodes c n → n.form ≡ l.form → length n.prefix ≡ 7 → AreListed n l.part.base l.part.first l.from (drop l.start (take l.place (pairs_of g.P.RangeEntry.pair l.buffer)));
 }

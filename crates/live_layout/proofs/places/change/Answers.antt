@@ -7,8 +7,8 @@ use Rattle.live_layout.proofs.places.change.Goals as goal
 
 pub returns-clause-is : goal.returns-clause-is
 returns-clause-is g c = λ es h some.
-    let old = g.D.Draft.words c.args.draft.now c.args.seat.now in
-    let new = g.D.Draft.words c.args.draft.now c.set.new.seat in
+    let old = g.D.WriteWords.words c.args.draft.now c.args.seat.now in
+    let new = g.D.WriteWords.words c.args.draft.now c.set.new.seat in
     let b = c.args.byte in
     let s = subst (λ x. Keeps old x b) (sym c.set.ensures.is) (change-stored old b c.args.child c.requires.long c.ranges.byte.fits) in
     let marked : mark new b ≡ mark old b = grind (arith, elements) in

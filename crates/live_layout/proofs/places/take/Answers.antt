@@ -8,8 +8,8 @@ use Rattle.live_layout.proofs.places.take.Goals as goal
 
 pub returns-clause-is : goal.returns-clause-is
 returns-clause-is g c = λ es h some.
-    let old = g.D.Draft.words c.args.draft.now c.args.seat.now in
-    let new = g.D.Draft.words c.args.draft.now c.set-2.new.seat in
+    let old = g.D.WriteWords.words c.args.draft.now c.args.seat.now in
+    let new = g.D.WriteWords.words c.args.draft.now c.set-2.new.seat in
     let b = c.args.byte in
     let m = c.without_bit-marks.result in
     let n = c.saturating_sub.result in

@@ -5,7 +5,7 @@ use Rattle.live_nodes.proofs.node.reclaim.Goals as goal
 
 pub compare_exchange-found-requires-clause-rule : goal.compare_exchange-found-requires-clause-rule
 compare_exchange-found-requires-clause-rule g c = let s = c.args.seat.now in
-    reclaims g.L.NodeLaw.root g.L.NodeLaw.holds s.id s.view c.args.word.now.key g.M.Change.told c.args.obsolete c.requires.obsolete.0 c.requires.locks
+    reclaims g.L.NodeLaw.root g.L.NodeLaw.holds s.id s.view c.args.word.now.key g.M.OnLock.told c.args.obsolete c.requires.obsolete.0 c.requires.locks
 
 pub returns-clause-told : goal.returns-clause-told
 returns-clause-told g c = let r = c.compare_exchange-found.result in (r.0, joined r.1.next r.1.left, search rules, c.compare_exchange-found.ensures.told)

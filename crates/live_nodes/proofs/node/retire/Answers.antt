@@ -3,4 +3,4 @@ use Rattle.live_nodes.proofs.node.retire.Goals as goal
 
 pub store-requires-clause-rule : goal.store-requires-clause-rule
 store-requires-clause-rule g c = let s = c.args.seat.now in
-    retires g.L.NodeLaw.root g.L.NodeLaw.holds s.id s.view c.args.word.now.key g.M.Change.told c.args.free c.requires.free.0 c.requires.frees
+    retires g.L.NodeLaw.root g.L.NodeLaw.holds s.id s.view c.args.word.now.key g.M.OnLock.told c.args.free c.requires.free.0 c.requires.frees

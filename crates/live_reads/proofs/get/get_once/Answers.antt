@@ -1,26 +1,26 @@
 use Rattle.std.proofs.Common.{rules, arith, sym, ap, subst, ℕ, Some, None, ◌≡◌, ◌∙◌}
 use Rattle.live_law.specs.Views.{View}
-use Rattle.live_reads.specs.Ways.{IsOpen, Found, Ended}
+use Rattle.live_reads.specs.Paths.{IsOpen, Found, Ended}
 use Rattle.live_reads.specs.Sees.{Follows, IsNextOpen}
-use Rattle.live_reads.specs.declared.sight.Next.TheVariants as nexts
+use Rattle.live_reads.specs.declared.prefix_match.Next.TheVariants as nexts
 use Rattle.live_reads.proofs.Finds.{keeps_then, seen_more, looked_leaf, ended_none, names_kept}
 use Rattle.live_reads.proofs.Sights.{sights_names, sure_root}
 use Rattle.live_reads.proofs.get.get_once.Goals as goal
 
 pub returns-in_err-here : goal.returns-in_err-here
 returns-in_err-here g c =
-    let u = c.args.pass.now.view in
+    let u = c.args.seat.now.view in
     let r = c.root.ensures.told in
     let o = c.open.ensures.told in
-    let w = c.open.new.pass.view in
+    let w = c.open.new.seat.view in
     let out : c.from_residual-in_err-here.result ≡ None = search rules in
-    record { told = (o.0 ∙ r.0, o.1 ∙ r.1, keeps_then u c.root.new.pass.view w r.2 o.2, subst (λ z. Found g.A.Asks.ask z u w) (sym out) (ap (λ (z : View). z.seen) o.3 ∙ r.3)) }
+    record { told = (o.0 ∙ r.0, o.1 ∙ r.1, keeps_then u c.root.new.seat.view w r.2 o.2, subst (λ z. Found g.A.Asks.ask z u w) (sym out) (ap (λ (z : View). z.seen) o.3 ∙ r.3)) }
 
 pub loop-height-init : goal.loop-height-init
 loop-height-init g c =
-    let u = c.args.pass.now.view in
-    let v = c.root.new.pass.view in
-    let w = c.open.new.pass.view in
+    let u = c.args.seat.now.view in
+    let v = c.root.new.seat.view in
+    let w = c.open.new.seat.view in
     let r = c.root.ensures.told in
     let o = c.open.ensures.told in
     let there = c.in_ok-here.ensures.opened in
@@ -43,11 +43,11 @@ loop-height-init g c =
 
 pub returns-in_err-step : goal.returns-in_err-step
 returns-in_err-step g c =
-    let u = c.args.pass.now.view in
+    let u = c.args.seat.now.view in
     let i = c.loop-height.invariant in
-    let v = c.loop-height.pass.view in
+    let v = c.loop-height.seat.view in
     let h = c.loop-height.height in
-    let w = c.step.new.pass.view in
+    let w = c.step.new.seat.view in
     let t = c.step.ensures.told in
     let q = g.A.Asks.ask in
     let key = c.args.key in
@@ -58,11 +58,11 @@ returns-in_err-step g c =
 
 pub returns-in-Ends : goal.returns-in-Ends
 returns-in-Ends g c =
-    let u = c.args.pass.now.view in
+    let u = c.args.seat.now.view in
     let i = c.loop-height.invariant in
-    let v = c.loop-height.pass.view in
+    let v = c.loop-height.seat.view in
     let h = c.loop-height.height in
-    let w = c.step.new.pass.view in
+    let w = c.step.new.seat.view in
     let t = c.step.ensures.told in
     let q = g.A.Asks.ask in
     let key = c.args.key in
@@ -75,11 +75,11 @@ returns-in-Ends g c =
 
 pub loop-height-preserved : goal.loop-height-preserved
 loop-height-preserved g c =
-    let u = c.args.pass.now.view in
+    let u = c.args.seat.now.view in
     let i = c.loop-height.invariant in
-    let v = c.loop-height.pass.view in
+    let v = c.loop-height.seat.view in
     let h = c.loop-height.height in
-    let w = c.step.new.pass.view in
+    let w = c.step.new.seat.view in
     let t = c.step.ensures.told in
     let q = g.A.Asks.ask in
     let key = c.args.key in
@@ -89,7 +89,7 @@ loop-height-preserved g c =
     let here = c.in_ok-step.step.here in
     let is : c.in_ok-step.step.next ≡ nexts.Goes c.in-Goes.below c.in-Goes.lower = search rules in
     let f = subst (λ z. Follows Ends v w key h (Some z)) is next.0 in
-    let node = subst (λ z. IsNextOpen w c.step.new.pass.book here.words.now here.taken key z) is next.1 in
+    let node = subst (λ z. IsNextOpen w c.step.new.seat.book here.words.now here.taken key z) is next.1 in
     record {
       book = t.0 ∙ i.book;
       id = t.1 ∙ i.id;
@@ -102,51 +102,51 @@ loop-height-preserved g c =
 
 pub ends_above-requires-clause-sighted : goal.ends_above-requires-clause-sighted
 ends_above-requires-clause-sighted g c =
-    let v = c.loop-height.pass.view in
-    let w = c.step.new.pass.view in
+    let v = c.loop-height.seat.view in
+    let w = c.step.new.seat.view in
     let h = c.loop-height.height in
     let key = c.args.key in
     let Ends = Ended g.A.Asks.reads g.A.Asks.ask None in
-    let is : c.in_ok-step.step.next ≡ nexts.Forks c.in-Forks.fork = search rules in
+    let is : c.in_ok-step.step.next ≡ nexts.Mismatches c.in-Mismatches.mismatch = search rules in
     let f = subst (λ z. Follows Ends v w key h (Some z)) is c.in_ok-step.ensures.next.0 in
     (sights_names w c.loop-height.name key h (names_kept v w c.loop-height.name key h c.step.ensures.told.2 c.loop-height.invariant.node.names), f.1.sighted)
 
 pub returns-then-ends_above : goal.returns-then-ends_above
 returns-then-ends_above g c =
-    let u = c.args.pass.now.view in
+    let u = c.args.seat.now.view in
     let i = c.loop-height.invariant in
-    let v = c.loop-height.pass.view in
+    let v = c.loop-height.seat.view in
     let h = c.loop-height.height in
-    let w = c.step.new.pass.view in
+    let w = c.step.new.seat.view in
     let t = c.step.ensures.told in
     let q = g.A.Asks.ask in
     let key = c.args.key in
     let keeps = keeps_then u v w i.keeps t.2 in
     let Ends = Ended g.A.Asks.reads q None in
     let next = c.in_ok-step.ensures.next in
-    let is : c.in_ok-step.step.next ≡ nexts.Forks c.in-Forks.fork = search rules in
+    let is : c.in_ok-step.step.next ≡ nexts.Mismatches c.in-Mismatches.mismatch = search rules in
     let f = subst (λ z. Follows Ends v w key h (Some z)) is next.0 in
-    let x = c.ends_above.new.pass.view in
+    let x = c.ends_above.new.seat.view in
     let e = c.ends_above.ensures.told in
     let a = c.ends_above.ensures.ends (search rules) in
     record { told = (e.0 ∙ (t.0 ∙ i.book), e.1 ∙ (t.1 ∙ i.id), keeps_then u w x keeps e.2, seen_more q (Some None) u w x (f.0 ∙ i.seen) a) }
 
-pub returns-in-Forks : goal.returns-in-Forks
-returns-in-Forks g c =
-    let u = c.args.pass.now.view in
+pub returns-in-Mismatches : goal.returns-in-Mismatches
+returns-in-Mismatches g c =
+    let u = c.args.seat.now.view in
     let i = c.loop-height.invariant in
-    let v = c.loop-height.pass.view in
+    let v = c.loop-height.seat.view in
     let h = c.loop-height.height in
-    let w = c.step.new.pass.view in
+    let w = c.step.new.seat.view in
     let t = c.step.ensures.told in
     let q = g.A.Asks.ask in
     let key = c.args.key in
     let keeps = keeps_then u v w i.keeps t.2 in
     let Ends = Ended g.A.Asks.reads q None in
     let next = c.in_ok-step.ensures.next in
-    let is : c.in_ok-step.step.next ≡ nexts.Forks c.in-Forks.fork = search rules in
+    let is : c.in_ok-step.step.next ≡ nexts.Mismatches c.in-Mismatches.mismatch = search rules in
     let f = subst (λ z. Follows Ends v w key h (Some z)) is next.0 in
-    let x = c.ends_above.new.pass.view in
+    let x = c.ends_above.new.seat.view in
     let e = c.ends_above.ensures.told in
     let same = c.ends_above.ensures.busy (search rules) in
     record { told = (e.0 ∙ (t.0 ∙ i.book), e.1 ∙ (t.1 ∙ i.id), keeps_then u w x keeps e.2, same ∙ (f.0 ∙ i.seen)) }
@@ -157,14 +157,14 @@ look-requires-clause-open g c =
     let i = l.invariant in
     let low = i.low in
     let one : l.height ≡ 1 = omega (arith, low, c.loop-height-test.false) in
-    subst (λ (z : ℕ). IsOpen l.pass.view l.pass.book l.here.words.now l.here.taken l.name c.args.key z) one i.node
+    subst (λ (z : ℕ). IsOpen l.seat.view l.seat.book l.here.words.now l.here.taken l.name c.args.key z) one i.node
 
 pub returns : goal.returns
 returns g c =
-    let u = c.args.pass.now.view in
+    let u = c.args.seat.now.view in
     let i = c.loop-height.invariant in
-    let v = c.loop-height.pass.view in
-    let w = c.look.new.pass.view in
+    let v = c.loop-height.seat.view in
+    let w = c.look.new.seat.view in
     let t = c.look.ensures.told in
     let q = g.A.Asks.ask in
     let found = looked_leaf g.A.Asks.reads q c.look.result v w c.requires.asks.2 t.3 in

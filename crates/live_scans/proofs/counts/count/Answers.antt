@@ -11,23 +11,23 @@ use Rattle.live_scans.proofs.Knowing.{counted_seat}
 use Rattle.live_scans.proofs.counts.count.Goals as goal
 
 pub invariant_of-guard : goal.invariant_of-guard
-invariant_of-guard c = ready_kept c.guard.inside.pass.view c.start.new.pass.view c.guard.inside.room c.guard.invariant c.start.ensures.told.2
+invariant_of-guard c = ready_kept c.guard.inside.seat.view c.start.new.seat.view c.guard.inside.room c.guard.invariant c.start.ensures.told.2
 
-pub count_all-requires-clause-trunk : goal.count_all-requires-clause-trunk
-count_all-requires-clause-trunk c = c.in-Some.ensures.told.2.places (place 0 1 1) c.guard.invariant.trunk
+pub count_all-requires-clause-root_word : goal.count_all-requires-clause-root_word
+count_all-requires-clause-root_word c = c.in-Some.ensures.told.2.places (place 0 1 1) c.guard.invariant.root_word
 
 pub invariant_of-guard-in_default-count_all : goal.invariant_of-guard-in_default-count_all
 invariant_of-guard-in_default-count_all c =
-    let u = c.guard.inside.pass.view in
-    let v = c.start.new.pass.view in
-    let w = c.count_all.new.pass.view in
+    let u = c.guard.inside.seat.view in
+    let v = c.start.new.seat.view in
+    let w = c.count_all.new.seat.view in
     ready_kept u w c.guard.inside.room c.guard.invariant (keeps_then u v w c.in-Some.ensures.told.2 c.in_default-count_all.ensures.told.2)
 
 pub returns-in_default-count_all-clause-busy : goal.returns-in_default-count_all-clause-busy
 returns-in_default-count_all-clause-busy c =
-    let u = c.guard.inside.pass in
-    let v = c.start.new.pass in
-    let w = c.count_all.new.pass in
+    let u = c.guard.inside.seat in
+    let v = c.start.new.seat in
+    let w = c.count_all.new.seat in
     let s = c.in-Some.ensures.told in
     let t = c.in_default-count_all.ensures.told in
     let first : known_of u.book u.id u.view ≡ c.args.guard.now = search rules in
@@ -35,16 +35,16 @@ returns-in_default-count_all-clause-busy c =
 
 pub invariant_of-guard-2 : goal.invariant_of-guard-2
 invariant_of-guard-2 c =
-    let u = c.guard.inside.pass.view in
-    let v = c.start.new.pass.view in
-    let w = c.count_all.new.pass.view in
+    let u = c.guard.inside.seat.view in
+    let v = c.start.new.seat.view in
+    let w = c.count_all.new.seat.view in
     ready_kept u w c.guard.inside.room c.guard.invariant (keeps_then u v w c.in-Some.ensures.told.2 c.in-Some-count_all.ensures.told.2)
 
 pub returns-clause-counted : goal.returns-clause-counted
 returns-clause-counted c =
-    let u = c.guard.inside.pass in
-    let v = c.start.new.pass in
-    let w = c.count_all.new.pass in
+    let u = c.guard.inside.seat in
+    let v = c.start.new.seat in
+    let w = c.count_all.new.seat in
     let s = c.in-Some.ensures.told in
     let t = c.in-Some-count_all.ensures.told in
     let count = c.in-Some-count_all.count in

@@ -1,7 +1,7 @@
 use Rattle.std.proofs.Common.{rules, ℕ, subst, inr, ◌≡◌, ◌+◌}
 use Rattle.live_law.specs.Known.{Known}
 use Rattle.live_growth.specs.Calls.{known_of}
-use Rattle.live_reads.specs.Ways.{Names}
+use Rattle.live_reads.specs.Paths.{Names}
 use Rattle.live_reads.proofs.Finds.{keeps_then}
 use Rattle.live_growth.proofs.Ready.{ready_kept}
 use Rattle.live_scans.specs.Scans.{HasBegun}
@@ -11,25 +11,25 @@ use Rattle.live_scans.proofs.Ends.{before_seat}
 use Rattle.live_scans.proofs.floors.floor.Goals as goal
 
 pub invariant_of-guard : goal.invariant_of-guard
-invariant_of-guard c = ready_kept c.guard.inside.pass.view c.start.new.pass.view c.guard.inside.room c.guard.invariant c.start.ensures.told.2
+invariant_of-guard c = ready_kept c.guard.inside.seat.view c.start.new.seat.view c.guard.inside.room c.guard.invariant c.start.ensures.told.2
 
 pub find_before-requires-clause-root : goal.find_before-requires-clause-root
 find_before-requires-clause-root c =
     let s = c.in-Some.ensures.told.3 in
-    subst (λ (z : ℕ × ℕ). Names c.start.new.pass.view c.in-Some.stand.name z.0 z.1) (λ i. (s.1 i, s.2 i)) s.3.2
+    subst (λ (z : ℕ × ℕ). Names c.start.new.seat.view c.in-Some.position.name z.0 z.1) (λ i. (s.1 i, s.2 i)) s.3.2
 
 pub invariant_of-guard-in_default-find_before : goal.invariant_of-guard-in_default-find_before
 invariant_of-guard-in_default-find_before c =
-    let u = c.guard.inside.pass.view in
-    let v = c.start.new.pass.view in
-    let w = c.find_before.new.pass.view in
+    let u = c.guard.inside.seat.view in
+    let v = c.start.new.seat.view in
+    let w = c.find_before.new.seat.view in
     ready_kept u w c.guard.inside.room c.guard.invariant (keeps_then u v w c.in-Some.ensures.told.2 c.in_default-find_before.ensures.told.2)
 
 pub returns-in_default-find_before-clause-busy : goal.returns-in_default-find_before-clause-busy
 returns-in_default-find_before-clause-busy c =
-    let u = c.guard.inside.pass in
-    let v = c.start.new.pass in
-    let w = c.find_before.new.pass in
+    let u = c.guard.inside.seat in
+    let v = c.start.new.seat in
+    let w = c.find_before.new.seat in
     let s = c.in-Some.ensures.told in
     let t = c.in_default-find_before.ensures.told in
     let first : known_of u.book u.id u.view ≡ c.args.guard.now = search rules in
@@ -37,16 +37,16 @@ returns-in_default-find_before-clause-busy c =
 
 pub invariant_of-guard-2 : goal.invariant_of-guard-2
 invariant_of-guard-2 c =
-    let u = c.guard.inside.pass.view in
-    let v = c.start.new.pass.view in
-    let w = c.find_before.new.pass.view in
+    let u = c.guard.inside.seat.view in
+    let v = c.start.new.seat.view in
+    let w = c.find_before.new.seat.view in
     ready_kept u w c.guard.inside.room c.guard.invariant (keeps_then u v w c.in-Some.ensures.told.2 c.in-Some-find_before.ensures.told.2)
 
 pub returns-clause-before : goal.returns-clause-before
 returns-clause-before c =
-    let u = c.guard.inside.pass in
-    let v = c.start.new.pass in
-    let w = c.find_before.new.pass in
+    let u = c.guard.inside.seat in
+    let v = c.start.new.seat in
+    let w = c.find_before.new.seat in
     let s = c.in-Some.ensures.told in
     let t = c.in-Some-find_before.ensures.told in
     let found = c.in-Some-find_before.found in

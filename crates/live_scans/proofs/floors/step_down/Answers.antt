@@ -5,37 +5,37 @@ use Rattle.live_scans.proofs.Ends.{step_since}
 use Rattle.live_scans.proofs.floors.step_down.Goals as goal
 
 pub try_step-requires-clause-root : goal.try_step-requires-clause-root
-try_step-requires-clause-root c = names_kept c.args.pass.now.view c.loop.pass.view c.args.root c.args.key 8 c.loop.invariant.keeps c.requires.root
+try_step-requires-clause-root c = names_kept c.args.seat.now.view c.loop.seat.view c.args.root c.args.key 8 c.loop.invariant.keeps c.requires.root
 
 pub returns-in-Some : goal.returns-in-Some
 returns-in-Some c =
-    let u = c.args.pass.now.view in
-    let id = c.args.pass.now.id in
+    let u = c.args.seat.now.view in
+    let id = c.args.seat.now.id in
     let i = c.loop.invariant in
-    let v = c.loop.pass.view in
-    let w = c.try_step.new.pass.view in
+    let v = c.loop.seat.view in
+    let w = c.try_step.new.seat.view in
     let t = c.in-Some.ensures.told in
     record {
       told = (
         t.0 ∙ i.book,
         t.1 ∙ i.id,
         keeps_then u v w i.keeps t.2,
-        seen_since c.loop.pass.id id u v w i.id i.seen t.3,
-        step_since c.loop.pass.id id u v w c.args.key c.in-Some.step i.id i.seen t.4,
+        seen_since c.loop.seat.id id u v w i.id i.seen t.3,
+        step_since c.loop.seat.id id u v w c.args.key c.in-Some.step i.id i.seen t.4,
       );
     }
 
 pub loop-preserved : goal.loop-preserved
 loop-preserved c =
-    let u = c.args.pass.now.view in
-    let id = c.args.pass.now.id in
+    let u = c.args.seat.now.view in
+    let id = c.args.seat.now.id in
     let i = c.loop.invariant in
-    let v = c.loop.pass.view in
-    let w = c.try_step.new.pass.view in
+    let v = c.loop.seat.view in
+    let w = c.try_step.new.seat.view in
     let t = c.try_step.ensures.told in
     record {
       book = t.0 ∙ i.book;
       id = t.1 ∙ i.id;
       keeps = keeps_then u v w i.keeps t.2;
-      seen = seen_since c.loop.pass.id id u v w i.id i.seen t.3;
+      seen = seen_since c.loop.seat.id id u v w i.id i.seen t.3;
     }

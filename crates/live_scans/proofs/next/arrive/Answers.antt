@@ -9,20 +9,20 @@ use Rattle.live_scans.proofs.next.arrive.Goals as goal
 
 pub check-requires-clause-learns : goal.check-requires-clause-learns
 check-requires-clause-learns c =
-    let v = c.args.pass.now.view in
-    let b = c.args.pass.now.book in
+    let v = c.args.seat.now.view in
+    let b = c.args.seat.now.book in
     let l = c.args.lower in
     let words = l.here.words.now in
     let t = l.here.taken in
     let h = c.requires.head in
     let first = c.index-words-0.result in
     let at_k = (first_word (place_at h.sighted.spot) b words h.opened.are first first (sym c.index-words-0.is)).0 in
-    may_arrive v b words t l.name l.height l.first h first.key at_k c.args.pass.now.id (t / 4) (let e = h.even in omega (arith, e))
+    may_arrive v b words t l.name l.height l.first h first.key at_k c.args.seat.now.id (t / 4) (let e = h.even in omega (arith, e))
 
 pub returns : goal.returns
 returns c =
-    let v = c.args.pass.now.view in
-    let b = c.args.pass.now.book in
+    let v = c.args.seat.now.view in
+    let b = c.args.seat.now.book in
     let l = c.args.lower in
     let words = l.here.words.now in
     let t = l.here.taken in

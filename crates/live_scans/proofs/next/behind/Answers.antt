@@ -13,21 +13,21 @@ use Rattle.live_scans.proofs.next.behind.Goals as goal
 
 pub check-requires-clause-learns : goal.check-requires-clause-learns
 check-requires-clause-learns g c =
-    let v = c.args.pass.now.view in
-    let b = c.args.pass.now.book in
+    let v = c.args.seat.now.view in
+    let b = c.args.seat.now.book in
     let words = c.args.here.words.now in
     let t = c.args.here.taken in
     let n = c.requires.near in
     let spot = n.here.names.spot in
     let first = c.index-words-0.result in
     let at_k = (first_word (place_at spot) b words n.here.opened.are first first (sym c.index-words-0.is)).0 in
-    may_whole v b words t c.args.name c.args.key c.args.height n.here v refl first.key at_k g.A.Asks.ask.caller c.args.pass.now.id (t / 4) c.requires.asks (let f = n.here.free in omega (arith, f))
+    may_whole v b words t c.args.name c.args.key c.args.height n.here v refl first.key at_k g.A.Asks.ask.caller c.args.seat.now.id (t / 4) c.requires.asks (let f = n.here.free in omega (arith, f))
 
 pub returns-then-not-check : goal.returns-then-not-check
 returns-then-not-check g c =
-    let v = c.args.pass.now.view in
-    let id = c.args.pass.now.id in
-    let b = c.args.pass.now.book in
+    let v = c.args.seat.now.view in
+    let id = c.args.seat.now.id in
+    let b = c.args.seat.now.book in
     let words = c.args.here.words.now in
     let t = c.args.here.taken in
     let n = c.requires.near in
@@ -42,9 +42,9 @@ returns-then-not-check g c =
 
 pub returns-then-last-key : goal.returns-then-last-key
 returns-then-last-key g c =
-    let v = c.args.pass.now.view in
-    let id = c.args.pass.now.id in
-    let b = c.args.pass.now.book in
+    let v = c.args.seat.now.view in
+    let id = c.args.seat.now.id in
+    let b = c.args.seat.now.book in
     let words = c.args.here.words.now in
     let t = c.args.here.taken in
     let n = c.requires.near in
@@ -61,11 +61,11 @@ returns-then-last-key g c =
 
 pub returns : goal.returns
 returns g c =
-    let v = c.args.pass.now.view in
-    let id = c.args.pass.now.id in
+    let v = c.args.seat.now.view in
+    let id = c.args.seat.now.id in
     let key = c.args.key in
     let height = c.args.height in
-    let b = c.args.pass.now.book in
+    let b = c.args.seat.now.book in
     let words = c.args.here.words.now in
     let t = c.args.here.taken in
     let n = c.requires.near in

@@ -12,21 +12,21 @@ use Rattle.live_scans.proofs.next.is_still.Goals as goal
 
 pub check-requires-clause-learns : goal.check-requires-clause-learns
 check-requires-clause-learns g c =
-    let v = c.args.pass.now.view in
-    let b = c.args.pass.now.book in
+    let v = c.args.seat.now.view in
+    let b = c.args.seat.now.book in
     let words = c.args.here.words.now in
     let t = c.args.here.taken in
     let f = c.requires.next in
     let l = c.args.lower in
     let first = c.index-words-0.result in
     let at_k = (first_word (place_at f.names.spot) b words f.are first first (sym c.index-words-0.is)).0 in
-    may_be_still v b words t c.args.name c.args.key c.args.height c.args.byte c.args.word l.name l.height l.first l.here.words.now l.here.taken f first.key at_k g.A.Asks.ask.caller c.args.pass.now.id (t / 4) c.requires.asks (let e = f.free in omega (arith, e))
+    may_be_still v b words t c.args.name c.args.key c.args.height c.args.byte c.args.word l.name l.height l.first l.here.words.now l.here.taken f first.key at_k g.A.Asks.ask.caller c.args.seat.now.id (t / 4) c.requires.asks (let e = f.free in omega (arith, e))
 
 pub returns : goal.returns
 returns g c =
-    let v = c.args.pass.now.view in
-    let b = c.args.pass.now.book in
-    let id = c.args.pass.now.id in
+    let v = c.args.seat.now.view in
+    let b = c.args.seat.now.book in
+    let id = c.args.seat.now.id in
     let words = c.args.here.words.now in
     let t = c.args.here.taken in
     let f = c.requires.next in

@@ -9,8 +9,8 @@ use Rattle.live_scans.proofs.next.meet_under.Goals as goal
 
 pub check-requires-clause-learns : goal.check-requires-clause-learns
 check-requires-clause-learns g c =
-    let v = c.args.pass.now.view in
-    let b = c.args.pass.now.book in
+    let v = c.args.seat.now.view in
+    let b = c.args.seat.now.book in
     let words = c.args.here.words.now in
     let t = c.args.here.taken in
     let n = c.requires.near in
@@ -22,12 +22,12 @@ check-requires-clause-learns g c =
     let at = up_of c.args.height c.args.to (up c.args.height c.args.key) c.args.byte (omega (arith, high)) c.ranges.byte.fits c.requires.to in
     let above = ap (up c.args.height) c.requires.asks.0 ∙ at.0 in
     let at_byte = ap (digit c.args.height) c.requires.asks.0 ∙ at.1 in
-    may_meet_under v b words t c.args.name c.args.key c.args.height c.args.byte c.args.word n high q above at_byte first.key at_k g.A.Asks.reads c.args.pass.now.id (t / 4) c.requires.asks.1 (let f = n.here.free in omega (arith, f))
+    may_meet_under v b words t c.args.name c.args.key c.args.height c.args.byte c.args.word n high q above at_byte first.key at_k g.A.Asks.reads c.args.seat.now.id (t / 4) c.requires.asks.1 (let f = n.here.free in omega (arith, f))
 
 pub returns : goal.returns
 returns g c =
-    let v = c.args.pass.now.view in
-    let b = c.args.pass.now.book in
+    let v = c.args.seat.now.view in
+    let b = c.args.seat.now.book in
     let words = c.args.here.words.now in
     let t = c.args.here.taken in
     let n = c.requires.near in

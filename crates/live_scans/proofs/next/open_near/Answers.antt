@@ -11,8 +11,8 @@ use Rattle.live_scans.proofs.next.open_near.Goals as goal
 
 pub child_after-found-requires : goal.child_after-found-requires
 child_after-found-requires c =
-    let u = c.enter.new.pass.view in
-    let b = c.enter.new.pass.book in
+    let u = c.enter.new.seat.view in
+    let b = c.enter.new.seat.book in
     let words = c.in_ok-here.here.words.now in
     let t = c.in_ok-here.here.taken in
     let o = c.in_ok-here.ensures.open in
@@ -22,13 +22,13 @@ child_after-found-requires c =
 
 pub returns : goal.returns
 returns c =
-    let v = c.args.pass.now.view in
-    let u = c.enter.new.pass.view in
+    let v = c.args.seat.now.view in
+    let u = c.enter.new.seat.view in
     let entered = c.enter.ensures.told in
     let name = c.args.name in
     let key = c.args.key in
     let height = c.args.height in
-    let b = c.enter.new.pass.book in
+    let b = c.enter.new.seat.book in
     let words = c.in_ok-here.here.words.now in
     let t = c.in_ok-here.here.taken in
     let o = c.in_ok-here.ensures.open in

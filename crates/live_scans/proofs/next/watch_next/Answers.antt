@@ -1,6 +1,6 @@
 use Rattle.std.proofs.Common.{rules, arith, refl, sym, ap, subst, get_or, ℕ, List, Option, ◌/◌, ◌≡◌, ◌∙◌}
 use Rattle.word_book.specs.Book.{reads, none_joined}
-use Rattle.node_table.specs.declared.child.Child.TheVariants.{Node}
+use Rattle.spec_node.specs.declared.child.Child.TheVariants.{Node}
 use Rattle.live_layout.specs.Encodes.{IsWord}
 use Rattle.live_nodes.specs.Plays.{Checks}
 use Rattle.live_nodes.specs.Calls.{MayCheck}
@@ -8,10 +8,10 @@ use Rattle.live_law.specs.Levels.{place_at}
 use Rattle.live_law.specs.Views.{View}
 use Rattle.live_law.specs.Tree.{IsMap, LearnsBelow}
 use Rattle.live_layout.specs.Head.{IsHead}
-use Rattle.live_reads.specs.Ways.{Sights}
+use Rattle.live_reads.specs.Paths.{Sights}
 use Rattle.live_reads.specs.Sees.{Sees}
-use Rattle.live_reads.specs.Forks.{first_number}
-use Rattle.live_reads.specs.declared.sight.Sight.TheVariants as sights
+use Rattle.live_reads.specs.Mismatches.{first_number}
+use Rattle.live_reads.specs.declared.prefix_match.PrefixMatch.TheVariants as prefix_matches
 use Rattle.live_reads.proofs.Finds.{keeps_then}
 use Rattle.live_reads.proofs.Views.{first_word, may_read_open, open_long}
 use Rattle.live_scans.proofs.Nexts.{may_watch_next, next_missed, next_keeps, next_is}
@@ -20,33 +20,33 @@ use Rattle.live_scans.proofs.next.watch_next.Goals as goal
 pub open-requires-clause-sighted : goal.open-requires-clause-sighted
 open-requires-clause-sighted g c =
     let m = c.requires.met in
-    subst (λ z. Sights c.args.pass.now.view z) (sym (c.slot_below-below.ensures m.0 m.1)) m.2
+    subst (λ z. Sights c.args.seat.now.view z) (sym (c.slot_below-below.ensures m.0 m.1)) m.2
 
 pub word-head-requires-clause-may : goal.word-head-requires-clause-may
 word-head-requires-clause-may g c =
-    let v = c.args.pass.now.view in
+    let v = c.args.seat.now.view in
     let m = c.requires.met in
     let below = c.slot_below-below.result in
     let n = subst (λ z. Sights v z) (sym (c.slot_below-below.ensures m.0 m.1)) m.2 in
-    let v₂ = c.open.new.pass.view in
+    let v₂ = c.open.new.seat.view in
     let told₂ = c.open.ensures.told in
     let o₂ = c.in_ok-there.ensures.opened.1 n in
-    may_read_open v₂ c.open.new.pass.book c.in_ok-there.there.words.now c.in_ok-there.there.taken n.spot (told₂.2.places (place_at n.spot) n.placed) o₂
+    may_read_open v₂ c.open.new.seat.book c.in_ok-there.there.words.now c.in_ok-there.there.taken n.spot (told₂.2.places (place_at n.spot) n.placed) o₂
 
 pub word-head-requires-clause-inside : goal.word-head-requires-clause-inside
 word-head-requires-clause-inside g c =
-    let v = c.args.pass.now.view in
+    let v = c.args.seat.now.view in
     let m = c.requires.met in
     let n = subst (λ z. Sights v z) (sym (c.slot_below-below.ensures m.0 m.1)) m.2 in
-    let v₂ = c.open.new.pass.view in
+    let v₂ = c.open.new.seat.view in
     let told₂ = c.open.ensures.told in
     let o₂ = c.in_ok-there.ensures.opened.1 n in
-    open_long v₂ c.open.new.pass.book c.in_ok-there.there.words.now c.in_ok-there.there.taken n.spot (told₂.2.places (place_at n.spot) n.placed) o₂
+    open_long v₂ c.open.new.seat.book c.in_ok-there.there.words.now c.in_ok-there.there.taken n.spot (told₂.2.places (place_at n.spot) n.placed) o₂
 
 pub check-requires-clause-learns : goal.check-requires-clause-learns
 check-requires-clause-learns g c =
-    let v = c.args.pass.now.view in
-    let b = c.args.pass.now.book in
+    let v = c.args.seat.now.view in
+    let b = c.args.seat.now.book in
     let words = c.args.here.words.now in
     let t = c.args.here.taken in
     let near = c.requires.near in
@@ -54,9 +54,9 @@ check-requires-clause-learns g c =
     let below = c.slot_below-below.result in
     let n = subst (λ z. Sights v z) (sym (c.slot_below-below.ensures m.0 m.1)) m.2 in
     let is_child = λ (s : ℕ) (e : IsWord c.args.word (Node s)). sym (c.slot_below-below.ensures s e) in
-    let v₂ = c.open.new.pass.view in
+    let v₂ = c.open.new.seat.view in
     let told₂ = c.open.ensures.told in
-    let b₂ = c.open.new.pass.book in
+    let b₂ = c.open.new.seat.book in
     let words₂ = c.in_ok-there.there.words.now in
     let t₂ = c.in_ok-there.there.taken in
     let even₂ = c.in_ok-there.ensures.opened.0 in
@@ -74,8 +74,8 @@ check-requires-clause-learns g c =
 
 pub returns-then-not-check-clause-told : goal.returns-then-not-check-clause-told
 returns-then-not-check-clause-told g c =
-    let v = c.args.pass.now.view in
-    let b = c.args.pass.now.book in
+    let v = c.args.seat.now.view in
+    let b = c.args.seat.now.book in
     let words = c.args.here.words.now in
     let t = c.args.here.taken in
     let near = c.requires.near in
@@ -83,9 +83,9 @@ returns-then-not-check-clause-told g c =
     let below = c.slot_below-below.result in
     let n = subst (λ z. Sights v z) (sym (c.slot_below-below.ensures m.0 m.1)) m.2 in
     let is_child = λ (s : ℕ) (e : IsWord c.args.word (Node s)). sym (c.slot_below-below.ensures s e) in
-    let v₂ = c.open.new.pass.view in
+    let v₂ = c.open.new.seat.view in
     let told₂ = c.open.ensures.told in
-    let b₂ = c.open.new.pass.book in
+    let b₂ = c.open.new.seat.book in
     let words₂ = c.in_ok-there.there.words.now in
     let t₂ = c.in_ok-there.there.taken in
     let even₂ = c.in_ok-there.ensures.opened.0 in
@@ -112,8 +112,8 @@ returns-then-not-check-clause-told g c =
 
 pub returns-in-Covers-clause-told : goal.returns-in-Covers-clause-told
 returns-in-Covers-clause-told g c =
-    let v = c.args.pass.now.view in
-    let b = c.args.pass.now.book in
+    let v = c.args.seat.now.view in
+    let b = c.args.seat.now.book in
     let words = c.args.here.words.now in
     let t = c.args.here.taken in
     let near = c.requires.near in
@@ -121,9 +121,9 @@ returns-in-Covers-clause-told g c =
     let below = c.slot_below-below.result in
     let n = subst (λ z. Sights v z) (sym (c.slot_below-below.ensures m.0 m.1)) m.2 in
     let is_child = λ (s : ℕ) (e : IsWord c.args.word (Node s)). sym (c.slot_below-below.ensures s e) in
-    let v₂ = c.open.new.pass.view in
+    let v₂ = c.open.new.seat.view in
     let told₂ = c.open.ensures.told in
-    let b₂ = c.open.new.pass.book in
+    let b₂ = c.open.new.seat.book in
     let words₂ = c.in_ok-there.there.words.now in
     let t₂ = c.in_ok-there.there.taken in
     let even₂ = c.in_ok-there.ensures.opened.0 in
@@ -150,8 +150,8 @@ returns-in-Covers-clause-told g c =
 
 pub returns-in-Leaves-clause-told : goal.returns-in-Leaves-clause-told
 returns-in-Leaves-clause-told g c =
-    let v = c.args.pass.now.view in
-    let b = c.args.pass.now.book in
+    let v = c.args.seat.now.view in
+    let b = c.args.seat.now.book in
     let words = c.args.here.words.now in
     let t = c.args.here.taken in
     let near = c.requires.near in
@@ -159,9 +159,9 @@ returns-in-Leaves-clause-told g c =
     let below = c.slot_below-below.result in
     let n = subst (λ z. Sights v z) (sym (c.slot_below-below.ensures m.0 m.1)) m.2 in
     let is_child = λ (s : ℕ) (e : IsWord c.args.word (Node s)). sym (c.slot_below-below.ensures s e) in
-    let v₂ = c.open.new.pass.view in
+    let v₂ = c.open.new.seat.view in
     let told₂ = c.open.ensures.told in
-    let b₂ = c.open.new.pass.book in
+    let b₂ = c.open.new.seat.book in
     let words₂ = c.in_ok-there.there.words.now in
     let t₂ = c.in_ok-there.there.taken in
     let even₂ = c.in_ok-there.ensures.opened.0 in
@@ -188,8 +188,8 @@ returns-in-Leaves-clause-told g c =
 
 pub returns-in-Covers-clause-next : goal.returns-in-Covers-clause-next
 returns-in-Covers-clause-next g c =
-    let v = c.args.pass.now.view in
-    let b = c.args.pass.now.book in
+    let v = c.args.seat.now.view in
+    let b = c.args.seat.now.book in
     let words = c.args.here.words.now in
     let t = c.args.here.taken in
     let near = c.requires.near in
@@ -197,9 +197,9 @@ returns-in-Covers-clause-next g c =
     let below = c.slot_below-below.result in
     let n = subst (λ z. Sights v z) (sym (c.slot_below-below.ensures m.0 m.1)) m.2 in
     let is_child = λ (s : ℕ) (e : IsWord c.args.word (Node s)). sym (c.slot_below-below.ensures s e) in
-    let v₂ = c.open.new.pass.view in
+    let v₂ = c.open.new.seat.view in
     let told₂ = c.open.ensures.told in
-    let b₂ = c.open.new.pass.book in
+    let b₂ = c.open.new.seat.book in
     let words₂ = c.in_ok-there.there.words.now in
     let t₂ = c.in_ok-there.there.taken in
     let even₂ = c.in_ok-there.ensures.opened.0 in
@@ -221,7 +221,7 @@ returns-in-Covers-clause-next g c =
     let told = subst (λ (z : ℕ × Option ℕ). Checks (LearnsBelow z.0 z.1) (reads first.key) v₃ tells.0 none_joined w) (λ i. (at_number i, at_word i)) tells.2 in
     let high = c.requires.height.0 in
     let apart = c.if-below-name.false in
-    let sight : c.compare.result ≡ sights.Covers c.in-Covers.height = c.in-Covers.is in
-    let sees = λ (form : ℕ) (p : List ℕ) (h : IsHead c.word-head.result form p). subst (Sees p c.floor_of-first.result) sight (c.compare.ensures form p h) in
+    let prefix_match : c.compare.result ≡ prefix_matches.Covers c.in-Covers.height = c.in-Covers.is in
+    let sees = λ (form : ℕ) (p : List ℕ) (h : IsHead c.word-head.result form p). subst (Sees p c.floor_of-first.result) prefix_match (c.compare.ensures form p h) in
     let is = next_is v b words t c.args.name c.args.key c.args.height c.args.byte c.args.word near high c.ranges.byte.fits below n is_child apart v₂ b₂ words₂ t₂ told₂.2 o₂ reads₂ v₃ rest₃ first.key at_k w tells.0 told (search rules) c.check.new.seat.book book book₂ even₂ c.word-head.result c.floor_of-first.result (search rules) (λ content agrees. (c.word-head.ensures.read content agrees).0) c.in-Covers.height sees in
     is

@@ -10,29 +10,29 @@ use Rattle.live_scans.proofs.page.page.Goals as goal
 
 pub loop-stepped-init : goal.loop-stepped-init
 loop-stepped-init g c =
-    let u = c.args.pass.now.view in record {
+    let u = c.args.seat.now.view in record {
       book = refl;
       id = refl;
       keeps = keeps_same u;
-      seen = more_same c.args.pass.now.id u.client.seen;
+      seen = more_same c.args.seat.now.id u.client.seen;
       room = c.requires.room;
       low = omega arith;
       high = c.requires.order;
       seam = inr refl;
-      stand = c.requires.stand;
+      position = c.requires.position;
       read = nothing_read true u.client.seen c.args.key c.args.key (omega arith);
     }
 
-pub read_on-requires-clause-trunk : goal.read_on-requires-clause-trunk
-read_on-requires-clause-trunk g c = c.loop-stepped.invariant.keeps.places (place 0 1 1) c.requires.trunk
+pub read_on-requires-clause-root_word : goal.read_on-requires-clause-root_word
+read_on-requires-clause-root_word g c = c.loop-stepped.invariant.keeps.places (place 0 1 1) c.requires.root_word
 
 pub returns-in_err-stepped : goal.returns-in_err-stepped
 returns-in_err-stepped g c =
-    let u = c.args.pass.now.view in
-    let id = c.args.pass.now.id in
+    let u = c.args.seat.now.view in
+    let id = c.args.seat.now.id in
     let i = c.loop-stepped.invariant in
-    let v = c.loop-stepped.pass.view in
-    let w = c.read_on.new.pass.view in
+    let v = c.loop-stepped.seat.view in
+    let w = c.read_on.new.seat.view in
     let t = c.read_on.ensures.told in
     let out : c.from_residual.result ≡ None = search rules in
     record {
@@ -40,18 +40,18 @@ returns-in_err-stepped g c =
         t.0 ∙ i.book,
         t.1 ∙ i.id,
         keeps_then u v w i.keeps t.2,
-        seen_since c.loop-stepped.pass.id id u v w i.id i.seen t.3,
+        seen_since c.loop-stepped.seat.id id u v w i.id i.seen t.3,
         when_out (λ s. IsPage id u w c.args.key c.args.limit (pairs_of g.P.RangeEntry.pair c.read_on.new.buffer) s.count s.last) c.from_residual.result out,
       );
     }
 
 pub returns-then-step-buffer : goal.returns-then-step-buffer
 returns-then-step-buffer g c =
-    let u = c.args.pass.now.view in
-    let id = c.args.pass.now.id in
+    let u = c.args.seat.now.view in
+    let id = c.args.seat.now.id in
     let i = c.loop-stepped.invariant in
-    let v = c.loop-stepped.pass.view in
-    let w = c.read_on.new.pass.view in
+    let v = c.loop-stepped.seat.view in
+    let w = c.read_on.new.seat.view in
     let t = c.in_ok-stepped.ensures.told in
     let s = c.in_ok-stepped.stepped.step in
     let its = t.4.1 in
@@ -62,17 +62,17 @@ returns-then-step-buffer g c =
       high = its.high;
       few = its.few;
       whole = λ l. absurd (let n = length-map c.read_on.new.buffer g.P.RangeEntry.pair in omega (arith, n, l, c.if-step-buffer.true));
-      reads = page_step c.loop-stepped.pass.id id u v w c.args.key c.loop-stepped.from c.args.limit c.loop-stepped.count s.count s.last (pairs_of g.P.RangeEntry.pair c.loop-stepped.buffer) (pairs_of g.P.RangeEntry.pair c.read_on.new.buffer) i.id i.seen i.read c.in_ok-stepped.ensures.before i.low i.seam its;
+      reads = page_step c.loop-stepped.seat.id id u v w c.args.key c.loop-stepped.from c.args.limit c.loop-stepped.count s.count s.last (pairs_of g.P.RangeEntry.pair c.loop-stepped.buffer) (pairs_of g.P.RangeEntry.pair c.read_on.new.buffer) i.id i.seen i.read c.in_ok-stepped.ensures.before i.low i.seam its;
     } in
-    record { told = (t.0 ∙ i.book, t.1 ∙ i.id, keeps_then u v w i.keeps t.2, seen_since c.loop-stepped.pass.id id u v w i.id i.seen t.3, page) }
+    record { told = (t.0 ∙ i.book, t.1 ∙ i.id, keeps_then u v w i.keeps t.2, seen_since c.loop-stepped.seat.id id u v w i.id i.seen t.3, page) }
 
 pub returns-then-step-limit : goal.returns-then-step-limit
 returns-then-step-limit g c =
-    let u = c.args.pass.now.view in
-    let id = c.args.pass.now.id in
+    let u = c.args.seat.now.view in
+    let id = c.args.seat.now.id in
     let i = c.loop-stepped.invariant in
-    let v = c.loop-stepped.pass.view in
-    let w = c.read_on.new.pass.view in
+    let v = c.loop-stepped.seat.view in
+    let w = c.read_on.new.seat.view in
     let t = c.in_ok-stepped.ensures.told in
     let s = c.in_ok-stepped.stepped.step in
     let its = t.4.1 in
@@ -83,17 +83,17 @@ returns-then-step-limit g c =
       high = its.high;
       few = its.few;
       whole = λ l. c.if-step-limit.true;
-      reads = page_step c.loop-stepped.pass.id id u v w c.args.key c.loop-stepped.from c.args.limit c.loop-stepped.count s.count s.last (pairs_of g.P.RangeEntry.pair c.loop-stepped.buffer) (pairs_of g.P.RangeEntry.pair c.read_on.new.buffer) i.id i.seen i.read c.in_ok-stepped.ensures.before i.low i.seam its;
+      reads = page_step c.loop-stepped.seat.id id u v w c.args.key c.loop-stepped.from c.args.limit c.loop-stepped.count s.count s.last (pairs_of g.P.RangeEntry.pair c.loop-stepped.buffer) (pairs_of g.P.RangeEntry.pair c.read_on.new.buffer) i.id i.seen i.read c.in_ok-stepped.ensures.before i.low i.seam its;
     } in
-    record { told = (t.0 ∙ i.book, t.1 ∙ i.id, keeps_then u v w i.keeps t.2, seen_since c.loop-stepped.pass.id id u v w i.id i.seen t.3, page) }
+    record { told = (t.0 ∙ i.book, t.1 ∙ i.id, keeps_then u v w i.keeps t.2, seen_since c.loop-stepped.seat.id id u v w i.id i.seen t.3, page) }
 
 pub loop-stepped-preserved : goal.loop-stepped-preserved
 loop-stepped-preserved g c =
-    let u = c.args.pass.now.view in
-    let id = c.args.pass.now.id in
+    let u = c.args.seat.now.view in
+    let id = c.args.seat.now.id in
     let i = c.loop-stepped.invariant in
-    let v = c.loop-stepped.pass.view in
-    let w = c.read_on.new.pass.view in
+    let v = c.loop-stepped.seat.view in
+    let w = c.read_on.new.seat.view in
     let t = c.in_ok-stepped.ensures.told in
     let s = c.in_ok-stepped.stepped.step in
     let its = t.4.1 in
@@ -102,16 +102,16 @@ loop-stepped-preserved g c =
     let high = its.high in
     let low = i.low in
     let from = its.low in
-    let reads = page_step c.loop-stepped.pass.id id u v w c.args.key c.loop-stepped.from c.args.limit c.loop-stepped.count s.count s.last (pairs_of g.P.RangeEntry.pair c.loop-stepped.buffer) (pairs_of g.P.RangeEntry.pair c.read_on.new.buffer) i.id i.seen i.read c.in_ok-stepped.ensures.before i.low i.seam its in
+    let reads = page_step c.loop-stepped.seat.id id u v w c.args.key c.loop-stepped.from c.args.limit c.loop-stepped.count s.count s.last (pairs_of g.P.RangeEntry.pair c.loop-stepped.buffer) (pairs_of g.P.RangeEntry.pair c.read_on.new.buffer) i.id i.seen i.read c.in_ok-stepped.ensures.before i.low i.seam its in
     record {
       book = t.0 ∙ i.book;
       id = t.1 ∙ i.id;
       keeps = keeps_then u v w i.keeps t.2;
-      seen = seen_since c.loop-stepped.pass.id id u v w i.id i.seen t.3;
+      seen = seen_since c.loop-stepped.seat.id id u v w i.id i.seen t.3;
       room = omega (arith, n, few, c.if-step-buffer.false);
       low = omega (arith, low, from);
       high = omega (arith, high, c.if-step-limit.false);
       seam = inl (its.seam (omega (arith, n, few, c.if-step-buffer.false)) (omega (arith, high, c.if-step-limit.false)));
-      stand = t.4.0;
+      position = t.4.0;
       read = reads.read;
     }

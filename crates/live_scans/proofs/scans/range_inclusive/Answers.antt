@@ -19,23 +19,23 @@ returns-then-is_empty-clause-page g c =
     page_roomless c.args.guard.now c.begin_only-then-is_empty.new.guard c.args.first (c.args.last + 1) (length c.args.buffer.now) (omega arith) none c.in_ok-begin_only-2.ensures.begun
 
 pub invariant_of-guard : goal.invariant_of-guard
-invariant_of-guard g c = ready_kept c.guard.inside.pass.view c.start.new.pass.view c.guard.inside.room c.guard.invariant c.start.ensures.told.2
+invariant_of-guard g c = ready_kept c.guard.inside.seat.view c.start.new.seat.view c.guard.inside.room c.guard.invariant c.start.ensures.told.2
 
-pub page-requires-clause-trunk : goal.page-requires-clause-trunk
-page-requires-clause-trunk g c = c.in-Some.ensures.told.2.places (place 0 1 1) c.guard.invariant.trunk
+pub page-requires-clause-root_word : goal.page-requires-clause-root_word
+page-requires-clause-root_word g c = c.in-Some.ensures.told.2.places (place 0 1 1) c.guard.invariant.root_word
 
 pub invariant_of-guard-in_default-page : goal.invariant_of-guard-in_default-page
 invariant_of-guard-in_default-page g c =
-    let u = c.guard.inside.pass.view in
-    let v = c.start.new.pass.view in
-    let w = c.page.new.pass.view in
+    let u = c.guard.inside.seat.view in
+    let v = c.start.new.seat.view in
+    let w = c.page.new.seat.view in
     ready_kept u w c.guard.inside.room c.guard.invariant (keeps_then u v w c.in-Some.ensures.told.2 c.in_default-page.ensures.told.2)
 
 pub returns-in_default-page-clause-busy : goal.returns-in_default-page-clause-busy
 returns-in_default-page-clause-busy g c =
-    let u = c.guard.inside.pass in
-    let v = c.start.new.pass in
-    let w = c.page.new.pass in
+    let u = c.guard.inside.seat in
+    let v = c.start.new.seat in
+    let w = c.page.new.seat in
     let s = c.in-Some.ensures.told in
     let t = c.in_default-page.ensures.told in
     let first : known_of u.book u.id u.view ≡ c.args.guard.now = search rules in
@@ -43,16 +43,16 @@ returns-in_default-page-clause-busy g c =
 
 pub invariant_of-guard-2 : goal.invariant_of-guard-2
 invariant_of-guard-2 g c =
-    let u = c.guard.inside.pass.view in
-    let v = c.start.new.pass.view in
-    let w = c.page.new.pass.view in
+    let u = c.guard.inside.seat.view in
+    let v = c.start.new.seat.view in
+    let w = c.page.new.seat.view in
     ready_kept u w c.guard.inside.room c.guard.invariant (keeps_then u v w c.in-Some.ensures.told.2 c.in-Some-page.ensures.told.2)
 
 pub returns-clause-page : goal.returns-clause-page
 returns-clause-page g c =
-    let u = c.guard.inside.pass in
-    let v = c.start.new.pass in
-    let w = c.page.new.pass in
+    let u = c.guard.inside.seat in
+    let v = c.start.new.seat in
+    let w = c.page.new.seat in
     let s = c.in-Some.ensures.told in
     let t = c.in-Some-page.ensures.told in
     let e = c.in-Some-page.step in

@@ -5,30 +5,30 @@ use Rattle.live_reads.specs.Roots.{SeesRoot, Begins}
 use Rattle.live_reads.proofs.Finds.{keeps_then}
 use Rattle.live_scans.proofs.seek.start.Goals as goal
 
-pub root_begun-requires-clause-trunk : goal.root_begun-requires-clause-trunk
-root_begun-requires-clause-trunk c = c.loop.invariant.keeps.places (place 0 1 1) c.requires.trunk
+pub root_begun-requires-clause-root_word : goal.root_begun-requires-clause-root_word
+root_begun-requires-clause-root_word c = c.loop.invariant.keeps.places (place 0 1 1) c.requires.root_word
 
 pub returns-in-Some : goal.returns-in-Some
 returns-in-Some c =
-    let u = c.args.pass.now.view in
+    let u = c.args.seat.now.view in
     let i = c.loop.invariant in
-    let v = c.loop.pass.view in
-    let w = c.root_begun.new.pass.view in
+    let v = c.loop.seat.view in
+    let w = c.root_begun.new.seat.view in
     let t = c.in-Some.ensures.told in
     let began = subst (λ (z : ℕ × List (Entry ℕ)). Begins z.0 z.1 w.client.seen) (λ j. (i.id j, i.seen j)) t.3 in
     record { told = (t.0 ∙ i.book, t.1 ∙ i.id, keeps_then u v w i.keeps t.2, (began, refl, refl, (omega arith, omega arith, t.4))) }
 
 pub loop-preserved : goal.loop-preserved
 loop-preserved c =
-    let u = c.args.pass.now.view in
+    let u = c.args.seat.now.view in
     let i = c.loop.invariant in
-    let v = c.loop.pass.view in
-    let w = c.root_begun.new.pass.view in
+    let v = c.loop.seat.view in
+    let w = c.root_begun.new.seat.view in
     let t = c.root_begun.ensures.told in
     let out : c.root_begun.result ≡ None = search rules in
     record {
       book = t.0 ∙ i.book;
       id = t.1 ∙ i.id;
       keeps = keeps_then u v w i.keeps t.2;
-      seen = subst (λ (o : Option ℕ). SeesRoot (Begins c.loop.pass.id) v w o) out t.3 ∙ i.seen;
+      seen = subst (λ (o : Option ℕ). SeesRoot (Begins c.loop.seat.id) v w o) out t.3 ∙ i.seen;
     }

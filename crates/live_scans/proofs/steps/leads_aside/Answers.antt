@@ -18,26 +18,26 @@ not_true h = search rules
 
 pub returns-in_default : goal.returns-in_default
 returns-in_default g c =
-    let v = c.args.pass.now.view in
-    let u = c.enter.new.pass.view in
+    let v = c.args.seat.now.view in
+    let u = c.enter.new.seat.view in
     let entered = c.enter.ensures.told in
-    let id = c.args.pass.now.id in
+    let id = c.args.seat.now.id in
     record { told = (entered.0, entered.1, entered.2, seen_equal id v u entered.3, λ h. absurd (not_true h)) }
 
 pub watch-requires-clause-below : goal.watch-requires-clause-below
 watch-requires-clause-below g c =
-    let v = c.args.pass.now.view in
-    let u = c.enter.new.pass.view in
+    let v = c.args.seat.now.view in
+    let u = c.enter.new.seat.view in
     let entered = c.enter.ensures.told in
-    sights_kept v u entered.2 c.args.fork.below c.requires.leaves.sighted
+    sights_kept v u entered.2 c.args.mismatch.below c.requires.leaves.sighted
 
 pub returns-then-not-watch : goal.returns-then-not-watch
 returns-then-not-watch g c =
-    let v = c.args.pass.now.view in
-    let u = c.enter.new.pass.view in
+    let v = c.args.seat.now.view in
+    let u = c.enter.new.seat.view in
     let entered = c.enter.ensures.told in
-    let id = c.args.pass.now.id in
-    let w = c.watch.new.pass.view in
+    let id = c.args.seat.now.id in
+    let w = c.watch.new.seat.view in
     let watched = c.watch.ensures.told in
     let keeps = keeps_then v u w entered.2 watched.2 in
     let seen = watched.3 ∙ entered.3 in
@@ -52,34 +52,34 @@ check-requires-clause-learns g c =
     let height = c.args.height in
     let words = c.in-Some.here.words.now in
     let t = c.in-Some.here.taken in
-    let w = c.watch.new.pass.view in
+    let w = c.watch.new.seat.view in
     let watched = c.watch.ensures.told in
     let aside = c.watch.ensures.aside (search rules) in
-    let f = aside.forked in
+    let f = aside.mismatched in
     let spot = f.names.spot in
-    let b = c.watch.new.pass.book in
+    let b = c.watch.new.seat.book in
     let first = get_or words 0 c.index-here-0.result in
     let at_k = (first_word (place_at spot) b words f.are first c.index-here-0.result refl).0 in
     let caller = g.A.Asks.ask.caller in
-    may_whole_above w b words t name key height f first.key at_k caller c.watch.new.pass.id (t / 4) (c.requires.asks ∙ sym (watched.1 ∙ entered.1)) (let free = f.free in omega (arith, free))
+    may_whole_above w b words t name key height f first.key at_k caller c.watch.new.seat.id (t / 4) (c.requires.asks ∙ sym (watched.1 ∙ entered.1)) (let free = f.free in omega (arith, free))
 
 pub returns : goal.returns
 returns g c =
-    let v = c.args.pass.now.view in
-    let u = c.enter.new.pass.view in
+    let v = c.args.seat.now.view in
+    let u = c.enter.new.seat.view in
     let entered = c.enter.ensures.told in
-    let id = c.args.pass.now.id in
+    let id = c.args.seat.now.id in
     let name = c.args.name in
     let key = c.args.key in
     let height = c.args.height in
     let words = c.in-Some.here.words.now in
     let t = c.in-Some.here.taken in
-    let w = c.watch.new.pass.view in
+    let w = c.watch.new.seat.view in
     let watched = c.watch.ensures.told in
     let aside = c.watch.ensures.aside (search rules) in
-    let f = aside.forked in
+    let f = aside.mismatched in
     let spot = f.names.spot in
-    let b = c.watch.new.pass.book in
+    let b = c.watch.new.seat.book in
     let first = get_or words 0 c.index-here-0.result in
     let at_k = (first_word (place_at spot) b words f.are first c.index-here-0.result refl).0 in
     let caller = g.A.Asks.ask.caller in
@@ -91,14 +91,14 @@ returns g c =
     let keeps = keeps_then v u w entered.2 watched.2 in
     let seen = watched.3 ∙ entered.3 in
     let since = seen_equal id v w seen in
-    let Aside = IsBeside height key c.args.fork.at c.args.fork.byte in
+    let Aside = IsBeside height key c.args.mismatch.at c.args.mismatch.byte in
     let missed = above_missed w b words t name key height f first.key at_k caller x tells.0 tells.2 in
     let hit = above_hit w b words t name key height f first.key at_k caller x tells.0 tells.2 in
     dite (ℕ_discrete tells.0 t)
     (λ same_word.
     let found = hit same_word in
     let r = subst (λ z. IsRead z w.client spot spot.shape t f.saw x.client) c.requires.asks found.1 in
-    record { told = (book, same, keeps_then v w x keeps found.0, more_then id v.client.seen w.client.seen x.client.seen since r.fits, λ _. none_since id v w x Aside since (has_none_beside id w x b words t name key height c.args.fork.at c.args.fork.byte aside r c.requires.height.0)) })
+    record { told = (book, same, keeps_then v w x keeps found.0, more_then id v.client.seen w.client.seen x.client.seen since r.fits, λ _. none_since id v w x Aside since (has_none_beside id w x b words t name key height c.args.mismatch.at c.args.mismatch.byte aside r c.requires.height.0)) })
     (λ other.
     let kept = missed other in
     record { told = (book, same, keeps_then v w x keeps kept.0, seen_equal id v x (ap (λ (z : View). z.seen) kept.1 ∙ seen), λ h. absurd (other (tells.1.0 h))) })

@@ -16,10 +16,10 @@ use Rattle.live_scans.proofs.steps.leaf_page.Goals as goal
 
 pub returns-in_err-here-clause-told : goal.returns-in_err-here-clause-told
 returns-in_err-here-clause-told g c =
-    let v = c.args.pass.now.view in
-    let u = c.enter.new.pass.view in
+    let v = c.args.seat.now.view in
+    let u = c.enter.new.seat.view in
     let entered = c.enter.ensures.told in
-    let id = c.args.pass.now.id in
+    let id = c.args.seat.now.id in
     let key = c.args.part.base + c.args.part.first in
     let since = seen_equal id v u entered.3 in
     let out : c.from_residual.result ≡ None = search rules in
@@ -27,8 +27,8 @@ returns-in_err-here-clause-told g c =
 
 pub fill-filled-requires-clause-cells : goal.fill-filled-requires-clause-cells
 fill-filled-requires-clause-cells g c =
-    let u = c.enter.new.pass.view in
-    let b = c.enter.new.pass.book in
+    let u = c.enter.new.seat.view in
+    let b = c.enter.new.seat.book in
     let words = c.in_ok-here.here.words.now in
     let t = c.in_ok-here.here.taken in
     let o = c.in_ok-here.ensures.open in
@@ -38,12 +38,12 @@ fill-filled-requires-clause-cells g c =
 
 pub check-requires-clause-learns : goal.check-requires-clause-learns
 check-requires-clause-learns g c =
-    let u = c.enter.new.pass.view in
+    let u = c.enter.new.seat.view in
     let entered = c.enter.ensures.told in
     let name = c.args.name in
     let key = c.args.part.base + c.args.part.first in
     let height : ℕ = 1 in
-    let b = c.enter.new.pass.book in
+    let b = c.enter.new.seat.book in
     let words = c.in_ok-here.here.words.now in
     let t = c.in_ok-here.here.taken in
     let o = c.in_ok-here.ensures.open in
@@ -58,14 +58,14 @@ check-requires-clause-learns g c =
 
 pub returns-then-not-check-clause-told : goal.returns-then-not-check-clause-told
 returns-then-not-check-clause-told g c =
-    let v = c.args.pass.now.view in
-    let u = c.enter.new.pass.view in
+    let v = c.args.seat.now.view in
+    let u = c.enter.new.seat.view in
     let entered = c.enter.ensures.told in
-    let id = c.args.pass.now.id in
+    let id = c.args.seat.now.id in
     let name = c.args.name in
     let key = c.args.part.base + c.args.part.first in
     let height : ℕ = 1 in
-    let b = c.enter.new.pass.book in
+    let b = c.enter.new.seat.book in
     let words = c.in_ok-here.here.words.now in
     let t = c.in_ok-here.here.taken in
     let o = c.in_ok-here.ensures.open in
@@ -86,14 +86,14 @@ returns-then-not-check-clause-told g c =
 
 pub returns-clause-told : goal.returns-clause-told
 returns-clause-told g c =
-    let v = c.args.pass.now.view in
-    let u = c.enter.new.pass.view in
+    let v = c.args.seat.now.view in
+    let u = c.enter.new.seat.view in
     let entered = c.enter.ensures.told in
-    let id = c.args.pass.now.id in
+    let id = c.args.seat.now.id in
     let name = c.args.name in
     let key = c.args.part.base + c.args.part.first in
     let height : ℕ = 1 in
-    let b = c.enter.new.pass.book in
+    let b = c.enter.new.seat.book in
     let words = c.in_ok-here.here.words.now in
     let t = c.in_ok-here.here.taken in
     let o = c.in_ok-here.ensures.open in

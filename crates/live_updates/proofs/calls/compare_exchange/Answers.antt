@@ -15,22 +15,22 @@ invariant_of-guard-in-Some c =
 pub returns-in-Some-clause-made : goal.returns-in-Some-clause-made
 returns-in-Some-clause-made c =
     let i = c.loop.invariant in
-    let v = c.loop.guard-inside.pass.view in
-    let w = c.exchange_once.new.pass.view in
+    let v = c.loop.guard-inside.seat.view in
+    let w = c.exchange_once.new.seat.view in
     let t = c.exchange_once.ensures.told in
-    let id = c.loop.guard-inside.pass.id in
+    let id = c.loop.guard-inside.seat.id in
     let made : c.exchange_once.result ≡ Some c.in-Some.answer = search rules in
     let answers = subst (λ z. EndsBy id (option_map (swapped id c.args.key c.args.old c.args.new) z) v w) made t.3 in
-    made_call c.args.guard.now c.exchange_once.new.pass.book c.exchange_once.new.pass.id v.client.seen w (λ (z : ℕ). swapped z c.args.key c.args.old c.args.new c.in-Some.answer) (λ z. refl) (t.0 ∙ i.book) (t.1 ∙ i.id) i.seen
+    made_call c.args.guard.now c.exchange_once.new.seat.book c.exchange_once.new.seat.id v.client.seen w (λ (z : ℕ). swapped z c.args.key c.args.old c.args.new c.in-Some.answer) (λ z. refl) (t.0 ∙ i.book) (t.1 ∙ i.id) i.seen
     (subst (λ (z : ℕ). Answers z (swapped z c.args.key c.args.old c.args.new c.in-Some.answer) v.client.seen w.client.seen) (sym t.1) answers)
 
 pub loop-preserved : goal.loop-preserved
 loop-preserved c =
     let i = c.loop.invariant in
-    let v = c.loop.guard-inside.pass.view in
-    let w = c.exchange_once.new.pass.view in
+    let v = c.loop.guard-inside.seat.view in
+    let w = c.exchange_once.new.seat.view in
     let t = c.exchange_once.ensures.told in
-    let id = c.loop.guard-inside.pass.id in
+    let id = c.loop.guard-inside.seat.id in
     let none : c.exchange_once.result ≡ None = search rules in
     record {
       book = t.0 ∙ i.book;

@@ -15,22 +15,22 @@ invariant_of-guard-in-Some c =
 pub returns-in-Some-clause-made : goal.returns-in-Some-clause-made
 returns-in-Some-clause-made c =
     let i = c.loop.invariant in
-    let v = c.loop.guard-inside.pass.view in
-    let w = c.remove_once.new.pass.view in
+    let v = c.loop.guard-inside.seat.view in
+    let w = c.remove_once.new.seat.view in
     let t = c.remove_once.ensures.told in
-    let id = c.loop.guard-inside.pass.id in
+    let id = c.loop.guard-inside.seat.id in
     let made : c.remove_once.result ≡ Some c.in-Some.before = search rules in
     let answers = subst (λ z. EndsBy id (option_map (removed id c.args.key) z) v w) made t.3 in
-    made_call c.args.guard.now c.remove_once.new.pass.book c.remove_once.new.pass.id v.client.seen w (λ (z : ℕ). removed z c.args.key c.in-Some.before) (λ z. refl) (t.0 ∙ i.book) (t.1 ∙ i.id) i.seen
+    made_call c.args.guard.now c.remove_once.new.seat.book c.remove_once.new.seat.id v.client.seen w (λ (z : ℕ). removed z c.args.key c.in-Some.before) (λ z. refl) (t.0 ∙ i.book) (t.1 ∙ i.id) i.seen
     (subst (λ (z : ℕ). Answers z (removed z c.args.key c.in-Some.before) v.client.seen w.client.seen) (sym t.1) answers)
 
 pub loop-preserved : goal.loop-preserved
 loop-preserved c =
     let i = c.loop.invariant in
-    let v = c.loop.guard-inside.pass.view in
-    let w = c.remove_once.new.pass.view in
+    let v = c.loop.guard-inside.seat.view in
+    let w = c.remove_once.new.seat.view in
     let t = c.remove_once.ensures.told in
-    let id = c.loop.guard-inside.pass.id in
+    let id = c.loop.guard-inside.seat.id in
     let none : c.remove_once.result ≡ None = search rules in
     record {
       book = t.0 ∙ i.book;

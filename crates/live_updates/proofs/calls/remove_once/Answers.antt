@@ -10,14 +10,14 @@ use Rattle.live_updates.proofs.Made.{no_more, at_none, at_some, missed_same, upd
 use Rattle.live_updates.proofs.calls.remove_once.Goals as goal
 
 pub seek-requires-clause-legal : goal.seek-requires-clause-legal
-seek-requires-clause-legal c = removal_lookup c.args.pass.now.id c.args.key
+seek-requires-clause-legal c = removal_lookup c.args.seat.now.id c.args.key
 
 pub returns-in_err-seek : goal.returns-in_err-seek
 returns-in_err-seek c =
-    let v = c.args.pass.now.view in
-    let w = c.seek.new.pass.view in
+    let v = c.args.seat.now.view in
+    let w = c.seek.new.seat.view in
     let t = c.seek.ensures.told in
-    let id = c.args.pass.now.id in
+    let id = c.args.seat.now.id in
     let key = c.args.key in
     let none : c.seek.result ≡ None = search rules in
     let out : c.from_residual.result ≡ None = search rules in
@@ -26,51 +26,51 @@ returns-in_err-seek c =
 
 pub returns-in-Absent : goal.returns-in-Absent
 returns-in-Absent c =
-    let v = c.args.pass.now.view in
-    let w = c.seek.new.pass.view in
+    let v = c.args.seat.now.view in
+    let w = c.seek.new.seat.view in
     let t = c.seek.ensures.told in
-    let id = c.args.pass.now.id in
+    let id = c.args.seat.now.id in
     let key = c.args.key in
     let absent : c.seek.result ≡ Some sites.Absent = search rules in
     record { told = (t.0, t.1, ready_kept v w c.args.room.now c.requires.ready t.2, at_none (lookup_of id key (removal id key)) c.seek.result v w absent t.3) }
 
 pub exchange_here-requires-clause-ready : goal.exchange_here-requires-clause-ready
-exchange_here-requires-clause-ready c = ready_kept c.args.pass.now.view c.seek.new.pass.view c.args.room.now c.requires.ready c.seek.ensures.told.2
+exchange_here-requires-clause-ready c = ready_kept c.args.seat.now.view c.seek.new.seat.view c.args.room.now c.requires.ready c.seek.ensures.told.2
 
 pub exchange_here-requires-clause-legal : goal.exchange_here-requires-clause-legal
-exchange_here-requires-clause-legal c = removal_update c.seek.new.pass.id c.args.key c.in-At.value
+exchange_here-requires-clause-legal c = removal_update c.seek.new.seat.id c.args.key c.in-At.value
 
 pub returns-then-is_some : goal.returns-then-is_some
 returns-then-is_some c =
-    let v = c.args.pass.now.view in
-    let w = c.seek.new.pass.view in
+    let v = c.args.seat.now.view in
+    let w = c.seek.new.seat.view in
     let t = c.seek.ensures.told in
-    let id = c.args.pass.now.id in
+    let id = c.args.seat.now.id in
     let key = c.args.key in
     let value = c.in-At.value in
-    let u = c.exchange_here.new.pass.view in
+    let u = c.exchange_here.new.seat.view in
     let e = c.exchange_here.ensures.told in
     let found : c.seek.result ≡ Some (sites.At c.in-At.leaf value) = search rules in
     let same = at_some (lookup_of id key (removal id key)) c.seek.result c.in-At.leaf value v w found t.3 in
     let some_missed : IsSome c.exchange_here.result = search rules in
-    let later = c.seek.new.pass.id in
+    let later = c.seek.new.seat.id in
     let missed = missed_same (update_of later key (Some value) None (removed later key (Some value))) c.exchange_here.result w u some_missed e.3 in
     record { told = (e.0 ∙ t.0, e.1 ∙ t.1, e.2, missed ∙ same) }
 
 pub returns-else-is_some : goal.returns-else-is_some
 returns-else-is_some c =
-    let v = c.args.pass.now.view in
-    let w = c.seek.new.pass.view in
+    let v = c.args.seat.now.view in
+    let w = c.seek.new.seat.view in
     let t = c.seek.ensures.told in
-    let id = c.args.pass.now.id in
+    let id = c.args.seat.now.id in
     let key = c.args.key in
     let value = c.in-At.value in
-    let u = c.exchange_here.new.pass.view in
+    let u = c.exchange_here.new.seat.view in
     let e = c.exchange_here.ensures.told in
     let found : c.seek.result ≡ Some (sites.At c.in-At.leaf value) = search rules in
     let same = at_some (lookup_of id key (removal id key)) c.seek.result c.in-At.leaf value v w found t.3 in
     let none : c.exchange_here.result ≡ None = search rules in
-    let later = c.seek.new.pass.id in
+    let later = c.seek.new.seat.id in
     let answers = updated_by (update_of later key (Some value) None (removed later key (Some value))) c.exchange_here.result w u none e.3 in
     record {
       told = (

@@ -4,28 +4,28 @@ use Rattle.live_growth.proofs.Ready.{ready_rest}
 use Rattle.live_updates.proofs.leaf.exchange_here.Goals as goal
 
 pub tidy-requires-clause-ready : goal.tidy-requires-clause-ready
-tidy-requires-clause-ready g c = ready_rest c.args.pass.now.view c.update_leaf.new.pass.view c.args.room.now c.requires.ready c.in-Ok-Empty.ensures.told.2
+tidy-requires-clause-ready g c = ready_rest c.args.seat.now.view c.update_leaf.new.seat.view c.args.room.now c.requires.ready c.in-Ok-Empty.ensures.told.2
 
 pub returns-in-Ok-Empty : goal.returns-in-Ok-Empty
 returns-in-Ok-Empty g c =
     let q = g.U.Updates.update in
-    let v = c.args.pass.now.view in
+    let v = c.args.seat.now.view in
     let e = c.in-Ok-Empty.ensures.told in
     let t = c.tidy.ensures.told in
     record { told = (t.0 ∙ e.0, t.1 ∙ e.1, t.2, subst (λ z. Answers q.caller q.entry v.client.seen z) (sym t.3) e.3) }
 
-pub narrow_way-requires-clause-ready : goal.narrow_way-requires-clause-ready
-narrow_way-requires-clause-ready g c = ready_rest c.args.pass.now.view c.update_leaf.new.pass.view c.args.room.now c.requires.ready c.in-Ok.ensures.told.2
+pub shrink_on_path-requires-clause-ready : goal.shrink_on_path-requires-clause-ready
+shrink_on_path-requires-clause-ready g c = ready_rest c.args.seat.now.view c.update_leaf.new.seat.view c.args.room.now c.requires.ready c.in-Ok.ensures.told.2
 
 pub returns-in-Ok : goal.returns-in-Ok
 returns-in-Ok g c =
     let q = g.U.Updates.update in
-    let v = c.args.pass.now.view in
+    let v = c.args.seat.now.view in
     let e = c.in-Ok.ensures.told in
-    let t = c.narrow_way.ensures.told in
+    let t = c.shrink_on_path.ensures.told in
     record { told = (t.0 ∙ e.0, t.1 ∙ e.1, t.2, subst (λ z. Answers q.caller q.entry v.client.seen z) (sym t.3) e.3) }
 
 pub returns-in-Err : goal.returns-in-Err
 returns-in-Err g c =
     let e = c.in-Err.ensures.told in
-    record { told = (e.0, e.1, ready_rest c.args.pass.now.view c.update_leaf.new.pass.view c.args.room.now c.requires.ready e.2, e.3) }
+    record { told = (e.0, e.1, ready_rest c.args.seat.now.view c.update_leaf.new.seat.view c.args.room.now c.requires.ready e.2, e.3) }

@@ -1,6 +1,6 @@
 use Rattle.std.proofs.Common.{rules, ◌≡◌, ◌∙◌, None, refl, sym, ap, subst}
 use Rattle.spec_map.specs.Map.{lookup}
-use Rattle.node_table.specs.declared.child.Child.TheVariants.{Payload}
+use Rattle.spec_node.specs.declared.child.Child.TheVariants.{Payload}
 use Rattle.live_layout.specs.Encodes.{Encodes}
 use Rattle.live_law.specs.Tree.{HasValue}
 use Rattle.live_growth.proofs.Values.{none_below}
@@ -8,7 +8,7 @@ use Rattle.live_updates.proofs.leaf.put_in.Goals as goal
 
 pub returns-clause-is : goal.returns-clause-is
 returns-clause-is g c = λ n encodes form deep.
-    let words = g.D.Draft.words c.args.draft.now in
+    let words = g.D.WriteWords.words c.args.draft.now in
     let same = ap words c.find.ensures.seat.others in
     let none : c.find.result ≡ None = search rules in
     let absent = none_below (lookup n.children c.args.byte) c.find.result (c.find.ensures.is (words c.args.seat.now) n (sym same) encodes form) none in

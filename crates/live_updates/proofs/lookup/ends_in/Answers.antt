@@ -15,9 +15,9 @@ in_leaf (Some x) = refl
 
 pub find-found-requires : goal.find-found-requires
 find-found-requires g c =
-    let v = c.args.pass.now.view in
+    let v = c.args.seat.now.view in
     let o = c.requires.open in
-    let b = c.args.pass.now.book in
+    let b = c.args.seat.now.book in
     let words = c.args.here.words.now in
     let t = c.args.here.taken in
     let spot = o.names.spot in
@@ -27,12 +27,12 @@ find-found-requires g c =
 
 pub check-requires-clause-learns : goal.check-requires-clause-learns
 check-requires-clause-learns g c =
-    let v = c.args.pass.now.view in
+    let v = c.args.seat.now.view in
     let q = g.Q.Lookups.lookup in
     let o = c.requires.open in
     let name = c.args.name in
     let key = c.args.key in
-    let b = c.args.pass.now.book in
+    let b = c.args.seat.now.book in
     let words = c.args.here.words.now in
     let t = c.args.here.taken in
     let spot = o.names.spot in
@@ -46,12 +46,12 @@ check-requires-clause-learns g c =
 
 pub returns-then-not-check : goal.returns-then-not-check
 returns-then-not-check g c =
-    let v = c.args.pass.now.view in
+    let v = c.args.seat.now.view in
     let q = g.Q.Lookups.lookup in
     let o = c.requires.open in
     let name = c.args.name in
     let key = c.args.key in
-    let b = c.args.pass.now.book in
+    let b = c.args.seat.now.book in
     let words = c.args.here.words.now in
     let t = c.args.here.taken in
     let spot = o.names.spot in
@@ -70,12 +70,12 @@ returns-then-not-check g c =
 
 pub returns : goal.returns
 returns g c =
-    let v = c.args.pass.now.view in
+    let v = c.args.seat.now.view in
     let q = g.Q.Lookups.lookup in
     let o = c.requires.open in
     let name = c.args.name in
     let key = c.args.key in
-    let b = c.args.pass.now.book in
+    let b = c.args.seat.now.book in
     let words = c.args.here.words.now in
     let t = c.args.here.taken in
     let spot = o.names.spot in

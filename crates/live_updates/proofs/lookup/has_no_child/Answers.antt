@@ -13,9 +13,9 @@ use Rattle.live_updates.proofs.lookup.has_no_child.Goals as goal
 
 pub find-requires : goal.find-requires
 find-requires g c =
-    let v = c.args.pass.now.view in
+    let v = c.args.seat.now.view in
     let o = c.requires.open in
-    let b = c.args.pass.now.book in
+    let b = c.args.seat.now.book in
     let words = c.args.here.words.now in
     let t = c.args.here.taken in
     let spot = o.names.spot in
@@ -25,9 +25,9 @@ find-requires g c =
 
 pub returns-then-is_some : goal.returns-then-is_some
 returns-then-is_some g c =
-    let v = c.args.pass.now.view in
+    let v = c.args.seat.now.view in
     let o = c.requires.open in
-    let b = c.args.pass.now.book in
+    let b = c.args.seat.now.book in
     let words = c.args.here.words.now in
     let t = c.args.here.taken in
     let spot = o.names.spot in
@@ -39,13 +39,13 @@ returns-then-is_some g c =
 
 pub check-requires-clause-learns : goal.check-requires-clause-learns
 check-requires-clause-learns g c =
-    let v = c.args.pass.now.view in
+    let v = c.args.seat.now.view in
     let q = g.Q.Lookups.lookup in
     let o = c.requires.open in
     let name = c.args.name in
     let key = c.args.key in
     let height = c.args.height in
-    let b = c.args.pass.now.book in
+    let b = c.args.seat.now.book in
     let words = c.args.here.words.now in
     let t = c.args.here.taken in
     let spot = o.names.spot in
@@ -59,13 +59,13 @@ check-requires-clause-learns g c =
 
 pub returns : goal.returns
 returns g c =
-    let v = c.args.pass.now.view in
+    let v = c.args.seat.now.view in
     let q = g.Q.Lookups.lookup in
     let o = c.requires.open in
     let name = c.args.name in
     let key = c.args.key in
     let height = c.args.height in
-    let b = c.args.pass.now.book in
+    let b = c.args.seat.now.book in
     let words = c.args.here.words.now in
     let t = c.args.here.taken in
     let spot = o.names.spot in

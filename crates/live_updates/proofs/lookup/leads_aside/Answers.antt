@@ -9,24 +9,24 @@ use Rattle.live_updates.proofs.lookup.leads_aside.Goals as goal
 
 pub check-requires-clause-learns : goal.check-requires-clause-learns
 check-requires-clause-learns g c =
-    let w = c.watch.new.pass.view in
+    let w = c.watch.new.seat.view in
     let s = c.watch.ensures.told in
-    let f = c.watch.ensures.forked (search rules) in
-    let b = c.watch.new.pass.book in
+    let f = c.watch.ensures.mismatched (search rules) in
+    let b = c.watch.new.seat.book in
     let words = c.args.here.words.now in
     let t = c.args.here.taken in
     let first = get_or words 0 c.index-here-0.result in
     let at_k = (first_word (place_at f.names.spot) b words f.are first c.index-here-0.result refl).0 in
-    may_part w b words t c.args.name c.args.key c.args.height f c.requires.height.0 first.key at_k g.Q.Lookups.lookup c.requires.asks.0 c.requires.legal c.watch.new.pass.id (t / 4)
+    may_part w b words t c.args.name c.args.key c.args.height f c.requires.height.0 first.key at_k g.Q.Lookups.lookup c.requires.asks.0 c.requires.legal c.watch.new.seat.id (t / 4)
     (c.requires.asks.1 ∙ sym s.1) (let free = f.free in omega (arith, free))
 
 pub returns : goal.returns
 returns g c =
-    let v = c.args.pass.now.view in
-    let w = c.watch.new.pass.view in
+    let v = c.args.seat.now.view in
+    let w = c.watch.new.seat.view in
     let s = c.watch.ensures.told in
-    let f = c.watch.ensures.forked (search rules) in
-    let b = c.watch.new.pass.book in
+    let f = c.watch.ensures.mismatched (search rules) in
+    let b = c.watch.new.seat.book in
     let words = c.args.here.words.now in
     let t = c.args.here.taken in
     let first = get_or words 0 c.index-here-0.result in

@@ -1,6 +1,6 @@
 use Rattle.std.proofs.Common.{sym, ◌∙◌}
-use Rattle.node_table.specs.declared.child.Child.TheVariants.{Node}
-use Rattle.node_table.specs.declared.child.Child.{Child as ChildOf}
+use Rattle.spec_node.specs.declared.child.Child.TheVariants.{Node}
+use Rattle.spec_node.specs.declared.child.Child.{Child as ChildOf}
 use Rattle.node_table.proofs.KindLaws.{length-mapped, Rises-mapped}
 use Rattle.node_base.specs.inner.Sorted.{pairs}
 use Rattle.node_rows.proofs.inner_row.base.Goals as goal

@@ -1,6 +1,6 @@
 use Rattle.std.proofs.Common.{ap, refl}
 use Rattle.node_base.specs.inner.Sorted.{pairs}
-use Rattle.node_table.specs.declared.child.Child.TheVariants.{Node}
+use Rattle.spec_node.specs.declared.child.Child.TheVariants.{Node}
 use Rattle.node_table.proofs.KindLaws.{lookup-mapped_none, lookup-mapped_some, put_into}
 use Rattle.node_rows.specs.declared.row_head.RowHead.{RowHead}
 use Rattle.node_rows.proofs.inner_row.exchange.Goals as goal

@@ -3,8 +3,8 @@ use Rattle.spec_map.specs.Map.{lookup, put}
 use Rattle.std.specs.Global.{Vec}
 use Rattle.node_base.specs.inner.Sorted.{pairs}
 use Rattle.node_forms.proofs.SortedLaws.{length-sorted}
-use Rattle.node_table.specs.declared.child.Child.{Child as ChildOf}
-use Rattle.node_table.specs.declared.child.Child.TheVariants.{Node}
+use Rattle.spec_node.specs.declared.child.Child.{Child as ChildOf}
+use Rattle.spec_node.specs.declared.child.Child.TheVariants.{Node}
 use Rattle.node_table.proofs.KindLaws.{length-mapped, mapped-absent, put_into}
 use Rattle.node_rows.specs.Spare.{IsSpareFor}
 use Rattle.node_rows.proofs.inner_row.insert.Goals as goal

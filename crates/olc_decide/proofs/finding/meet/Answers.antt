@@ -1,9 +1,9 @@
 use Rattle.std.proofs.Common.{ℕ, Some, None, refl, sym, ap, ◌∙◌, subst}
 use Rattle.spec_map.specs.Map.{lookup}
-use Rattle.node_table.specs.Key.{next_byte}
-use Rattle.node_table.specs.TableNode.{seen}
-use Rattle.node_table.specs.declared.child.Child.TheVariants.{Payload, Node as below_at}
-use Rattle.node_table.specs.declared.child.ChildRef.{ChildRef}
+use Rattle.spec_node.specs.Key.{next_byte}
+use Rattle.spec_node.specs.TableNode.{seen}
+use Rattle.spec_node.specs.declared.child.Child.TheVariants.{Payload, Node as below_at}
+use Rattle.spec_node.specs.declared.child.ChildRef.{ChildRef}
 use Rattle.spec_olc.specs.Calls.{bytes_of}
 use Rattle.olc_state.specs.inner.Tasks.{key_bytes}
 use Rattle.olc_decide.specs.declared.finding.RoomNeeded.{RoomNeeded}

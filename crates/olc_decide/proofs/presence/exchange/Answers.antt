@@ -1,5 +1,5 @@
 use Rattle.std.proofs.Common.{None}
-use Rattle.node_table.specs.TableNode.{seen}
+use Rattle.spec_node.specs.TableNode.{seen}
 use Rattle.spec_olc.specs.Meaning.{child_of, env_of, in_some}
 use Rattle.olc_descend.proofs.Looks.{found_means}
 use Rattle.olc_state.proofs.Replies.{reply_meant}

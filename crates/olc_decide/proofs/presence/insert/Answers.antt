@@ -1,4 +1,4 @@
-use Rattle.node_table.specs.TableNode.{seen}
+use Rattle.spec_node.specs.TableNode.{seen}
 use Rattle.spec_olc.specs.Meaning.{child_of, env_of, in_some}
 use Rattle.olc_descend.proofs.Looks.{found_means}
 use Rattle.olc_decide.specs.inner.Judged.{handed}

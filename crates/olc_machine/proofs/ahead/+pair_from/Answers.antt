@@ -1,5 +1,5 @@
 use Rattle.std.proofs.Common.{ℕ, suc, ◌∙◌, subst, sym, ap, arith, rules}
-use Rattle.node_table.specs.Key.{low}
+use Rattle.spec_node.specs.Key.{low}
 use Rattle.node_table.specs.Table.{IsSubtree}
 use Rattle.olc_state.specs.inner.Walks.{meant_nodes}
 use Rattle.olc_state.proofs.WalkLaws.{never_empty}

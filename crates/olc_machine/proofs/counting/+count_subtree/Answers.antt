@@ -1,5 +1,5 @@
 use Rattle.std.proofs.Common.{◌∷◌, [], ◌++◌, refl, sym, ◌∙◌, arith}
-use Rattle.node_table.specs.declared.child.Child.TheVariants.{Payload, Node}
+use Rattle.spec_node.specs.declared.child.Child.TheVariants.{Payload, Node}
 use Rattle.node_table.proofs.KindLaws.{Rises-mapped, length-mapped}
 use Rattle.spec_olc.specs.Meaning.{child_of}
 use Rattle.olc_state.specs.inner.Meant.{meant_node}

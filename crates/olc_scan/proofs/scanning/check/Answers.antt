@@ -1,7 +1,7 @@
 use Rattle.std.proofs.Common.{rules, ◌≡◌, inl, refl, ◌+◌, [], ◌∷◌, ◌++◌, ◌∙◌, length, ap, subst}
 use Rattle.spec_map.specs.Map.{between}
-use Rattle.node_table.specs.Key.{high, low, next_byte}
-use Rattle.node_table.specs.TableNode.{looked_at}
+use Rattle.spec_node.specs.Key.{high, low, next_byte}
+use Rattle.spec_node.specs.TableNode.{looked_at}
 use Rattle.spec_olc.specs.Calls.{bytes_of}
 use Rattle.spec_olc.specs.declared.types.Report.{Report}
 use Rattle.olc_descend.proofs.Events.{test_false}

@@ -1,5 +1,5 @@
 use Rattle.std.proofs.Common.{rules, ◌≡◌, ◌+◌, inl, inr, refl, [], ◌∷◌, ◌++◌, subst}
-use Rattle.node_table.specs.Key.{high}
+use Rattle.spec_node.specs.Key.{high}
 use Rattle.spec_olc.specs.declared.types.Report.{Report}
 use Rattle.olc_descend.proofs.Events.{test_false}
 use Rattle.olc_scan.specs.inner.Ranges.{IsPast, after_scan}

@@ -1,6 +1,6 @@
 use Rattle.std.proofs.Common.{◌≡◌, ℕ, ◌+◌, ◌-◌, ◌≤◌, ◌++◌, ◌∷◌, [], max, List, length, replicate, ap, ◌∙◌, arith, w64}
 use Rattle.std.specs.Int.{from_be_bytes}
-use Rattle.node_table.specs.Key.{high, low}
+use Rattle.spec_node.specs.Key.{high, low}
 use Rattle.olc_scan.proofs.Bounds.{high-last, padded_key}
 use Rattle.olc_scan.proofs.scanning.reach_in.Goals as goal
 

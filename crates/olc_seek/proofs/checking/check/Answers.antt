@@ -1,5 +1,5 @@
 use Rattle.std.proofs.Common.{◌≡◌, ℕ, Some, ap, subst, ◌∙◌}
-use Rattle.node_table.specs.declared.child.Child.TheVariants.{Node as below_at}
+use Rattle.spec_node.specs.declared.child.Child.TheVariants.{Node as below_at}
 use Rattle.spec_olc.specs.Calls.{bytes_of}
 use Rattle.spec_olc.specs.Meaning.{child_of, in_some}
 use Rattle.olc_descend.proofs.Events.{test_false}

@@ -1,8 +1,8 @@
 use Rattle.std.proofs.Common.{◌≡◌, ℕ, ◌+◌, List, [], ◌∷◌, ◌++◌, ◌∙◌, ap, subst, rules}
-use Rattle.node_table.specs.Key.{low}
+use Rattle.spec_node.specs.Key.{low}
 use Rattle.spec_map.specs.Map.{between}
-use Rattle.node_table.specs.TableNode.{looked_at}
-use Rattle.node_table.specs.declared.child.Child.TheVariants.{Payload, Node}
+use Rattle.spec_node.specs.TableNode.{looked_at}
+use Rattle.spec_node.specs.declared.child.Child.TheVariants.{Payload, Node}
 use Rattle.olc_state.specs.inner.Meant.{meant_node}
 use Rattle.olc_state.specs.inner.Walks.{meant_nodes}
 use Rattle.olc_state.proofs.WalkLaws.{stored_there, never_empty, child_next, child_none, next_payload, next_node, part_start, part_payload, part_node, part_end}

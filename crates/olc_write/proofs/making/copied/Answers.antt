@@ -1,5 +1,5 @@
 use Rattle.std.proofs.Common.{refl}
-use Rattle.node_table.specs.TableNode.{looked_at}
+use Rattle.spec_node.specs.TableNode.{looked_at}
 use Rattle.olc_write.proofs.CopyLaws.{copy_absent, copy_end, copy_kind, copy_next, copy_start}
 use Rattle.olc_write.proofs.making.copied.Goals as goal
 

@@ -1,7 +1,7 @@
 use Rattle.std.proofs.Common.{◌≡◌, ℕ, None, ap, refl, subst, sym, ◌∙◌}
 use Rattle.spec_map.specs.Map.{lookup, put}
 use Rattle.node_base.specs.Form.{next_form}
-use Rattle.node_table.specs.Key.{next_byte}
+use Rattle.spec_node.specs.Key.{next_byte}
 use Rattle.spec_olc.specs.Calls.{bytes_of, key_of}
 use Rattle.spec_olc.specs.Meaning.{child_of}
 use Rattle.olc_state.specs.inner.Meant.{meant_node}

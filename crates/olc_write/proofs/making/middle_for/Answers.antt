@@ -1,5 +1,5 @@
 use Rattle.std.proofs.Common.{ap, get_or, refl, subst, take, ◌∙◌}
-use Rattle.node_table.specs.Key.{IsFirstDifference}
+use Rattle.spec_node.specs.Key.{IsFirstDifference}
 use Rattle.olc_write.specs.inner.Makings.{IsBetween}
 use Rattle.olc_write.proofs.Copies.{between_is, empty_node}
 use Rattle.olc_write.proofs.making.middle_for.Goals as goal

@@ -1,5 +1,5 @@
 use Rattle.spec_olc.proofs.Leaves.{root_has_none}
-use Rattle.node_table.specs.declared.child.Child.TheVariants.{Payload}
+use Rattle.spec_node.specs.declared.child.Child.TheVariants.{Payload}
 use Rattle.spec_olc.proofs.laws.payloads_are_in_leaves.Goals as goal
 
 pub returns-clause-written : goal.returns-clause-written

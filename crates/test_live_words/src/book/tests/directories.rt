@@ -62,7 +62,7 @@ fn grown_by(directory: &Directory, alloc: Global, wanted: u64) -> u64 {
     grown
 }
 
-// The same, and turns the root to a word of each.
+// Tries to add so many segments, and turns the root to a word of each that is added. Returns how often the root was turned.
 fn grown_and_turned(directory: &Directory, alloc: Global, wanted: u64) -> u64 {
     let mut seat = directory.enter();
     let mut turned = 0u64;

@@ -52,7 +52,7 @@ fn fill(alloc: Global, map: &mut CongeeArc<u64, u64>) -> Result<(), OOMError> {
     Ok(())
 }
 
-// The same with owners.
+// The numbers that `WANTED` lists, of a filled map of owners.
 fn by_owner(map: &mut CongeeArc<u64, u64>) -> [u128; 6] {
     let (mut extracted, mut asked, mut left) = (0, 0, 0);
     let removed = map.remove_range(2, 3);

@@ -78,7 +78,7 @@ fn all_keys(keys: Keys) -> [u128; 2] {
     [count, sum]
 }
 
-// The same of those that are in the map, with what is charged.
+// How many of the keys are in the map, the sum of their values, and what is charged.
 fn keys_left(map: &Limited, keys: Keys) -> [u128; 3] {
     let (mut count, mut sum) = (0u128, 0u128);
     for i in 0..keys.0 {

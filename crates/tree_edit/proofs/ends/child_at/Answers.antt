@@ -1,5 +1,5 @@
 use Rattle.std.proofs.Common.{subst}
-use Rattle.node_table.specs.Key.{next_byte}
+use Rattle.spec_node.specs.Key.{next_byte}
 use Rattle.tree_links.specs.LinkNode.{IsMet}
 use Rattle.tree_links.specs.Places.{as_linked}
 use Rattle.tree_links.specs.declared.link.Link.TheVariants.{Slot}

@@ -7,7 +7,7 @@ use Rattle.tree_edit.proofs.EndLaws.{OnWay, way_start, way_short, way_there, way
 use Rattle.tree_links.specs.LinkNode.{LinkNode, looked_at}
 use Rattle.tree_links.specs.declared.link.Link.TheVariants.{Slot}
 use Rattle.tree_links.specs.Places.{as_linked}
-use Rattle.node_table.specs.Key.{AreBytes, key_number}
+use Rattle.spec_node.specs.Key.{AreBytes, key_number}
 use Rattle.node_table.proofs.KeyLaws.{key_number-be_bytes}
 use Rattle.spec_map.specs.Map.{Rises}
 use Rattle.tree_path.specs.inner.Root.{tree_pairs}

@@ -1,6 +1,6 @@
 use Rattle.std.proofs.Common.{length, refl, subst}
 use Rattle.node_base.specs.Form.{Fits}
-use Rattle.node_table.specs.TableNode.{TableNode}
+use Rattle.spec_node.specs.TableNode.{TableNode}
 use Rattle.node_table.specs.Table.{node_at}
 use Rattle.tree_edit.specs.inner.Writes.{IsFullAt}
 use Rattle.tree_links.specs.Places.{as_linked}

@@ -1,6 +1,6 @@
 use Rattle.std.proofs.Common.{◌≡◌, ◌<◌, length, get_or, map, Some, subst, arith}
 use Rattle.std.proofs.lemmas.Bool.{iff_false}
-use Rattle.node_table.specs.TableNode.{TableNode}
+use Rattle.spec_node.specs.TableNode.{TableNode}
 use Rattle.node_table.specs.Table.{node_at}
 use Rattle.tree_links.specs.SeenTable.{name_of}
 use Rattle.tree_edit.specs.inner.Rise.{HasRisen}

@@ -1,6 +1,6 @@
 use Rattle.std.proofs.Common.{◌≡◌, ◌∙◌, ℕ, [], Some, ap, refl}
 use Rattle.node_base.specs.declared.base_node.NodeType.TheVariants.{N256}
-use Rattle.node_table.specs.TableNode.{TableNode, TableNodeOf}
+use Rattle.spec_node.specs.TableNode.{TableNode, TableNodeOf}
 use Rattle.tree_links.specs.Places.{as_linked}
 use Rattle.tree_links.specs.SeenTable.{seen_node}
 use Rattle.tree_links.specs.declared.place.Place.{Place}

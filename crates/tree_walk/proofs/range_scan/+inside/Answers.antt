@@ -1,11 +1,11 @@
 use Rattle.std.proofs.Common.{◌^◌, [], ◌∷◌, ap, sym, subst, arith, rules, ◌∙◌}
 use Rattle.spec_map.proofs.RangeLaws.{between-all}
 use Rattle.node_base.specs.Rest.{rest, rest_4, rest_16, rest_48, rest_256}
-use Rattle.node_table.specs.Key.{low}
+use Rattle.spec_node.specs.Key.{low}
 use Rattle.node_table.specs.Table.{pairs_at, pairs_of}
 use Rattle.tree_links.specs.Places.{as_link, as_linked}
 use Rattle.tree_links.specs.SeenTable.{name_of, seen_links, seen_node}
-use Rattle.node_table.specs.declared.child.Child.TheVariants.{Node}
+use Rattle.spec_node.specs.declared.child.Child.TheVariants.{Node}
 use Rattle.tree_walk.specs.inner.Scan.{AddsAll, AddsEntries, HasLinks, entries_of, entries_under, links_at}
 use Rattle.tree_walk.proofs.WindowLaws.{whole_window}
 use Rattle.tree_walk.proofs.ScanLaws.{at_node, first_number_is, in_leaf_window}

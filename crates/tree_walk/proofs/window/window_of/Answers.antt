@@ -1,5 +1,5 @@
 use Rattle.std.proofs.Common.{◌≡◌, ◌+◌, ◌-◌, ◌/◌, ◌*◌, ◌^◌, ◌≤◌, length, min, ap, arith, ◌∙◌, refl}
-use Rattle.node_table.specs.Key.{low}
+use Rattle.spec_node.specs.Key.{low}
 use Rattle.tree_walk.proofs.WindowLaws.{window_to, window_none, padded_key}
 use Rattle.tree_walk.proofs.window.window_of.Goals as goal
 

@@ -7,32 +7,32 @@ use Rattle.live_growth.proofs.map.Congee.get.Goals as goal
 pub invariant_of-guard-in-Some : goal.invariant_of-guard-in-Some
 invariant_of-guard-in-Some c =
     let i = c.loop.invariant in
-    let v = c.loop.guard-inside.pass.view in
+    let v = c.loop.guard-inside.seat.view in
     let room = c.loop.guard-inside.room in
-    let w = c.get_once.new.pass.view in
+    let w = c.get_once.new.seat.view in
     let t = c.get_once.ensures.told in
     ready_kept v w room i.ready t.2
 
 pub returns-in-Some-clause-made : goal.returns-in-Some-clause-made
 returns-in-Some-clause-made c =
     let i = c.loop.invariant in
-    let v = c.loop.guard-inside.pass.view in
+    let v = c.loop.guard-inside.seat.view in
     let room = c.loop.guard-inside.room in
-    let w = c.get_once.new.pass.view in
+    let w = c.get_once.new.seat.view in
     let t = c.get_once.ensures.told in
-    made_call c.args.guard.now c.get_once.new.pass.book c.get_once.new.pass.id v.client.seen w (λ x. got (ask x c.args.key 0 0) c.in-Some.found) (λ x. refl) (t.0 ∙ i.book) (t.1 ∙ i.id) i.seen (answers_by c.loop.guard-inside.pass.id c.get_once.new.pass.id c.args.key c.in-Some.found v w (sym t.1) c.in-Some.ensures.told.3)
+    made_call c.args.guard.now c.get_once.new.seat.book c.get_once.new.seat.id v.client.seen w (λ x. got (ask x c.args.key 0 0) c.in-Some.found) (λ x. refl) (t.0 ∙ i.book) (t.1 ∙ i.id) i.seen (answers_by c.loop.guard-inside.seat.id c.get_once.new.seat.id c.args.key c.in-Some.found v w (sym t.1) c.in-Some.ensures.told.3)
 
 pub loop-preserved : goal.loop-preserved
 loop-preserved c =
     let i = c.loop.invariant in
-    let v = c.loop.guard-inside.pass.view in
+    let v = c.loop.guard-inside.seat.view in
     let room = c.loop.guard-inside.room in
-    let w = c.get_once.new.pass.view in
+    let w = c.get_once.new.seat.view in
     let t = c.get_once.ensures.told in
     let none : c.get_once.result ≡ None = search rules in
     record {
       book = t.0 ∙ i.book;
       id = t.1 ∙ i.id;
-      seen = found_none (ask c.loop.guard-inside.pass.id c.args.key 0 0) c.get_once.result v w t.3 none ∙ i.seen;
+      seen = found_none (ask c.loop.guard-inside.seat.id c.args.key 0 0) c.get_once.result v w t.3 none ∙ i.seen;
       ready = ready_kept v w room i.ready t.2;
     }

@@ -5,8 +5,8 @@ use Rattle.live_growth.proofs.map.Congee.with_limit.Goals as goal
 pub with_limit-requires-clause-law : goal.with_limit-requires-clause-law
 with_limit-requires-clause-law c = begins
 
-pub enter-pass-requires : goal.enter-pass-requires
-enter-pass-requires c = admits
+pub enter-seat-requires : goal.enter-seat-requires
+enter-seat-requires c = admits
 
 pub reserve-requires-clause-ready : goal.reserve-requires-clause-ready
-reserve-requires-clause-ready c = ready_new c.enter-pass.result.view c.none.result c.enter-pass.ensures.view c.none.ensures
+reserve-requires-clause-ready c = ready_new c.enter-seat.result.view c.none.result c.enter-seat.ensures.view c.none.ensures

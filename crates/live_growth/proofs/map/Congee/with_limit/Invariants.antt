@@ -2,5 +2,5 @@ use Rattle.std.proofs.Common.{false}
 use Rattle.live_law.specs.Views.{ask}
 use Rattle.live_growth.proofs.map.Congee.with_limit.Given as goal
 
-abbrev pub ghosts-plant : goal.ghosts-plant
-ghosts-plant a = record { ask = ask a.pass.now.id 0 0 8; reads = false }
+abbrev pub ghosts-make_root : goal.ghosts-make_root
+ghosts-make_root a = record { ask = ask a.seat.now.id 0 0 8; reads = false }

@@ -5,39 +5,39 @@ use Rattle.live_scans.proofs.Passes.{seen_since}
 use Rattle.live_scans.proofs.LeafSteps.{step_since}
 use Rattle.live_scans.proofs.counts.leaves.step_on.Goals as goal
 
-pub try_step-requires-clause-trunk : goal.try_step-requires-clause-trunk
-try_step-requires-clause-trunk c = c.loop.invariant.keeps.places (place 0 1 1) c.requires.trunk
+pub try_step-requires-clause-root_word : goal.try_step-requires-clause-root_word
+try_step-requires-clause-root_word c = c.loop.invariant.keeps.places (place 0 1 1) c.requires.root_word
 
 pub returns-in-Some : goal.returns-in-Some
 returns-in-Some c =
-    let u = c.args.pass.now.view in
-    let id = c.args.pass.now.id in
+    let u = c.args.seat.now.view in
+    let id = c.args.seat.now.id in
     let i = c.loop.invariant in
-    let v = c.loop.pass.view in
-    let w = c.try_step.new.pass.view in
+    let v = c.loop.seat.view in
+    let w = c.try_step.new.seat.view in
     let t = c.in-Some.ensures.told in
     record {
       told = (
         t.0 ∙ i.book,
         t.1 ∙ i.id,
         keeps_then u v w i.keeps t.2,
-        seen_since c.loop.pass.id id u v w i.id i.seen t.3,
-        (t.4.0, step_since c.loop.pass.id id u v w c.args.key c.try_step.new.buffer c.in-Some.stepped.step i.id i.seen t.4.1),
+        seen_since c.loop.seat.id id u v w i.id i.seen t.3,
+        (t.4.0, step_since c.loop.seat.id id u v w c.args.key c.try_step.new.buffer c.in-Some.stepped.step i.id i.seen t.4.1),
       );
     }
 
 pub loop-preserved : goal.loop-preserved
 loop-preserved c =
-    let u = c.args.pass.now.view in
-    let id = c.args.pass.now.id in
+    let u = c.args.seat.now.view in
+    let id = c.args.seat.now.id in
     let i = c.loop.invariant in
-    let v = c.loop.pass.view in
-    let w = c.try_step.new.pass.view in
+    let v = c.loop.seat.view in
+    let w = c.try_step.new.seat.view in
     let t = c.try_step.ensures.told in
     record {
       book = t.0 ∙ i.book;
       id = t.1 ∙ i.id;
       keeps = keeps_then u v w i.keeps t.2;
-      seen = seen_since c.loop.pass.id id u v w i.id i.seen t.3;
-      stand = tt;
+      seen = seen_since c.loop.seat.id id u v w i.id i.seen t.3;
+      position = tt;
     }

@@ -16,21 +16,21 @@ use Rattle.live_scans.proofs.floors.steps.first_byte.Goals as goal
 
 pub returns-in_err-here : goal.returns-in_err-here
 returns-in_err-here g c =
-    let v = c.args.pass.now.view in
-    let u = c.enter.new.pass.view in
+    let v = c.args.seat.now.view in
+    let u = c.enter.new.seat.view in
     let entered = c.enter.ensures.told in
-    let id = c.args.pass.now.id in
+    let id = c.args.seat.now.id in
     let key = c.args.key in
     let height = c.args.height in
-    let b = c.enter.new.pass.book in
+    let b = c.enter.new.seat.book in
     let since = seen_equal id v u entered.3 in
     let out : c.from_residual.result ≡ None = search rules in
     record { told = (entered.0, entered.1, entered.2, since, when_out (λ b. HasNone id v u (IsUpTo height key b)) c.from_residual.result out) }
 
 pub nearest-found-requires : goal.nearest-found-requires
 nearest-found-requires g c =
-    let u = c.enter.new.pass.view in
-    let b = c.enter.new.pass.book in
+    let u = c.enter.new.seat.view in
+    let b = c.enter.new.seat.book in
     let words = c.in_ok-here.here.words.now in
     let t = c.in_ok-here.here.taken in
     let o = c.in_ok-here.ensures.open in
@@ -40,12 +40,12 @@ nearest-found-requires g c =
 
 pub check-requires-clause-learns : goal.check-requires-clause-learns
 check-requires-clause-learns g c =
-    let u = c.enter.new.pass.view in
+    let u = c.enter.new.seat.view in
     let entered = c.enter.ensures.told in
     let name = c.args.name in
     let key = c.args.key in
     let height = c.args.height in
-    let b = c.enter.new.pass.book in
+    let b = c.enter.new.seat.book in
     let words = c.in_ok-here.here.words.now in
     let t = c.in_ok-here.here.taken in
     let o = c.in_ok-here.ensures.open in
@@ -60,14 +60,14 @@ check-requires-clause-learns g c =
 
 pub returns-then-not-check : goal.returns-then-not-check
 returns-then-not-check g c =
-    let v = c.args.pass.now.view in
-    let u = c.enter.new.pass.view in
+    let v = c.args.seat.now.view in
+    let u = c.enter.new.seat.view in
     let entered = c.enter.ensures.told in
-    let id = c.args.pass.now.id in
+    let id = c.args.seat.now.id in
     let name = c.args.name in
     let key = c.args.key in
     let height = c.args.height in
-    let b = c.enter.new.pass.book in
+    let b = c.enter.new.seat.book in
     let words = c.in_ok-here.here.words.now in
     let t = c.in_ok-here.here.taken in
     let o = c.in_ok-here.ensures.open in
@@ -88,14 +88,14 @@ returns-then-not-check g c =
 
 pub returns : goal.returns
 returns g c =
-    let v = c.args.pass.now.view in
-    let u = c.enter.new.pass.view in
+    let v = c.args.seat.now.view in
+    let u = c.enter.new.seat.view in
     let entered = c.enter.ensures.told in
-    let id = c.args.pass.now.id in
+    let id = c.args.seat.now.id in
     let name = c.args.name in
     let key = c.args.key in
     let height = c.args.height in
-    let b = c.enter.new.pass.book in
+    let b = c.enter.new.seat.book in
     let words = c.in_ok-here.here.words.now in
     let t = c.in_ok-here.here.taken in
     let o = c.in_ok-here.ensures.open in

@@ -17,18 +17,18 @@ use Rattle.live_scans.proofs.floors.steps.leaf_floor.Goals as goal
 
 pub returns-in_err-here : goal.returns-in_err-here
 returns-in_err-here g c =
-    let v = c.args.pass.now.view in
-    let u = c.enter.new.pass.view in
+    let v = c.args.seat.now.view in
+    let u = c.enter.new.seat.view in
     let entered = c.enter.ensures.told in
-    let id = c.args.pass.now.id in
+    let id = c.args.seat.now.id in
     let since = seen_equal id v u entered.3 in
     let out : c.from_residual.result ≡ None = search rules in
     record { told = (entered.0, entered.1, entered.2, since, when_out (λ found. Finds id v u c.args.base (c.args.base + c.args.byte + 1) found) c.from_residual.result out) }
 
 pub nearest-found-requires : goal.nearest-found-requires
 nearest-found-requires g c =
-    let u = c.enter.new.pass.view in
-    let b = c.enter.new.pass.book in
+    let u = c.enter.new.seat.view in
+    let b = c.enter.new.seat.book in
     let words = c.in_ok-here.here.words.now in
     let t = c.in_ok-here.here.taken in
     let o = c.in_ok-here.ensures.open in
@@ -38,12 +38,12 @@ nearest-found-requires g c =
 
 pub check-requires-clause-learns : goal.check-requires-clause-learns
 check-requires-clause-learns g c =
-    let u = c.enter.new.pass.view in
+    let u = c.enter.new.seat.view in
     let entered = c.enter.ensures.told in
     let name = c.args.name in
     let key = c.args.base + c.args.byte in
     let height : ℕ = 1 in
-    let b = c.enter.new.pass.book in
+    let b = c.enter.new.seat.book in
     let words = c.in_ok-here.here.words.now in
     let t = c.in_ok-here.here.taken in
     let o = c.in_ok-here.ensures.open in
@@ -58,14 +58,14 @@ check-requires-clause-learns g c =
 
 pub returns-then-not-check : goal.returns-then-not-check
 returns-then-not-check g c =
-    let v = c.args.pass.now.view in
-    let u = c.enter.new.pass.view in
+    let v = c.args.seat.now.view in
+    let u = c.enter.new.seat.view in
     let entered = c.enter.ensures.told in
-    let id = c.args.pass.now.id in
+    let id = c.args.seat.now.id in
     let name = c.args.name in
     let key = c.args.base + c.args.byte in
     let height : ℕ = 1 in
-    let b = c.enter.new.pass.book in
+    let b = c.enter.new.seat.book in
     let words = c.in_ok-here.here.words.now in
     let t = c.in_ok-here.here.taken in
     let o = c.in_ok-here.ensures.open in
@@ -86,14 +86,14 @@ returns-then-not-check g c =
 
 pub returns : goal.returns
 returns g c =
-    let v = c.args.pass.now.view in
-    let u = c.enter.new.pass.view in
+    let v = c.args.seat.now.view in
+    let u = c.enter.new.seat.view in
     let entered = c.enter.ensures.told in
-    let id = c.args.pass.now.id in
+    let id = c.args.seat.now.id in
     let name = c.args.name in
     let key = c.args.base + c.args.byte in
     let height : ℕ = 1 in
-    let b = c.enter.new.pass.book in
+    let b = c.enter.new.seat.book in
     let words = c.in_ok-here.here.words.now in
     let t = c.in_ok-here.here.taken in
     let o = c.in_ok-here.ensures.open in

@@ -4,8 +4,8 @@ use Rattle.live_updates.proofs.computes.absent.enter.Given as goal
 
 abbrev pub invariant-loop : goal.invariant-loop
 invariant-loop g l = record {
-  book : l.pass.book ≡ l.fn.pass.book;
-  id : l.pass.id ≡ l.fn.pass.id;
-  seen : l.pass.view.client.seen ≡ l.fn.pass.view.client.seen;
-  ready : IsReady l.pass.view l.room;
+  book : l.seat.book ≡ l.fn.seat.book;
+  id : l.seat.id ≡ l.fn.seat.id;
+  seen : l.seat.view.client.seen ≡ l.fn.seat.view.client.seen;
+  ready : IsReady l.seat.view l.room;
 }

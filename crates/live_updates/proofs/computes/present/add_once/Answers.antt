@@ -10,63 +10,63 @@ use Rattle.live_updates.proofs.Called.{always_lookup, always_update}
 use Rattle.live_updates.proofs.computes.present.add_once.Goals as goal
 
 pub seek-requires-clause-legal : goal.seek-requires-clause-legal
-seek-requires-clause-legal c = always_lookup c.args.pass.now.id c.args.key
+seek-requires-clause-legal c = always_lookup c.args.seat.now.id c.args.key
 
 pub update_here-requires-clause-legal : goal.update_here-requires-clause-legal
-update_here-requires-clause-legal c = always_update c.seek.new.pass.id c.args.key (Some c.in-Some-At.value) (sum_with (Some c.in-Some-At.value) c.args.number)
+update_here-requires-clause-legal c = always_update c.seek.new.seat.id c.args.key (Some c.in-Some-At.value) (sum_with (Some c.in-Some-At.value) c.args.number)
 
 pub returns-then-is_some : goal.returns-then-is_some
 returns-then-is_some c =
-    let v = c.args.pass.now.view in
-    let w = c.seek.new.pass.view in
+    let v = c.args.seat.now.view in
+    let w = c.seek.new.seat.view in
     let t = c.seek.ensures.told in
-    let id = c.args.pass.now.id in
+    let id = c.args.seat.now.id in
     let key = c.args.key in
     let room = c.args.room.now in
     let ready = ready_kept v w room c.requires.ready t.2 in
     let value = c.in-Some-At.value in
     let new = sum_with (Some value) c.args.number in
-    let u = c.update_here.new.pass.view in
+    let u = c.update_here.new.seat.view in
     let e = c.update_here.ensures.told in
     let found : c.seek.result ≡ Some (sites.At c.in-Some-At.leaf value) = search rules in
     let same = at_some (lookup_of id key nowhere) c.seek.result c.in-Some-At.leaf value v w found t.3 in
     let some_missed : IsSome c.update_here.result = search rules in
-    let later = c.seek.new.pass.id in
+    let later = c.seek.new.seat.id in
     let missed = missed_same (update_of later key (Some value) (Some new) (inserted_with later key (Some value) new)) c.update_here.result w u some_missed e.3 in
     record { told = (e.0 ∙ t.0, e.1 ∙ t.1, ready_rest w u room ready e.2, missed ∙ same) }
 
 pub returns-else-is_some : goal.returns-else-is_some
 returns-else-is_some c =
-    let v = c.args.pass.now.view in
-    let w = c.seek.new.pass.view in
+    let v = c.args.seat.now.view in
+    let w = c.seek.new.seat.view in
     let t = c.seek.ensures.told in
-    let id = c.args.pass.now.id in
+    let id = c.args.seat.now.id in
     let key = c.args.key in
     let room = c.args.room.now in
     let ready = ready_kept v w room c.requires.ready t.2 in
     let value = c.in-Some-At.value in
     let new = sum_with (Some value) c.args.number in
-    let u = c.update_here.new.pass.view in
+    let u = c.update_here.new.seat.view in
     let e = c.update_here.ensures.told in
     let found : c.seek.result ≡ Some (sites.At c.in-Some-At.leaf value) = search rules in
     let same = at_some (lookup_of id key nowhere) c.seek.result c.in-Some-At.leaf value v w found t.3 in
     let none : c.update_here.result ≡ None = search rules in
-    let later = c.seek.new.pass.id in
+    let later = c.seek.new.seat.id in
     let answers = updated_by (update_of later key (Some value) (Some new) (inserted_with later key (Some value) new)) c.update_here.result w u none e.3 in
     record { told = (e.0 ∙ t.0, e.1 ∙ t.1, ready_rest w u room ready e.2, (new, answers_from later id (λ (z : ℕ). inserted_with z key (Some value) new) w.client.seen v.client.seen u.client.seen t.1 same answers, refl)) }
 
 pub enter-requires-clause-legal : goal.enter-requires-clause-legal
-enter-requires-clause-legal c = always_update c.seek.new.pass.id c.args.key None c.args.number
+enter-requires-clause-legal c = always_update c.seek.new.seat.id c.args.key None c.args.number
 
 pub enter-requires-clause-ready : goal.enter-requires-clause-ready
-enter-requires-clause-ready c = ready_kept c.args.pass.now.view c.seek.new.pass.view c.args.room.now c.requires.ready c.seek.ensures.told.2
+enter-requires-clause-ready c = ready_kept c.args.seat.now.view c.seek.new.seat.view c.args.room.now c.requires.ready c.seek.ensures.told.2
 
 pub returns-in-None : goal.returns-in-None
 returns-in-None c =
-    let v = c.args.pass.now.view in
-    let w = c.seek.new.pass.view in
+    let v = c.args.seat.now.view in
+    let w = c.seek.new.seat.view in
     let t = c.seek.ensures.told in
-    let id = c.args.pass.now.id in
+    let id = c.args.seat.now.id in
     let key = c.args.key in
     let room = c.args.room.now in
     let none : c.seek.result ≡ None = search rules in

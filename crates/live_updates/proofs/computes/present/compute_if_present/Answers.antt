@@ -26,22 +26,22 @@ returns-in-Some-clause-asked g c =
 pub returns-in-Some-clause-made : goal.returns-in-Some-clause-made
 returns-in-Some-clause-made g c =
     let i = c.loop.invariant in
-    let v = c.loop.guard-inside.pass.view in
-    let w = c.present_once.new.pass.view in
+    let v = c.loop.guard-inside.seat.view in
+    let w = c.present_once.new.seat.view in
     let t = c.present_once.ensures.told in
-    let id = c.loop.guard-inside.pass.id in
+    let id = c.loop.guard-inside.seat.id in
     let made : c.present_once.result ≡ Some c.in-Some.both = search rules in
     let answers = subst (λ z. EndsBy id (option_map (computed_with id c.args.key) z) v w) made t.3 in
-    made_call c.args.guard.now c.present_once.new.pass.book c.present_once.new.pass.id v.client.seen w (λ (z : ℕ). computed_with z c.args.key c.in-Some.both) (λ z. refl) (t.0 ∙ i.book) (t.1 ∙ i.id) i.seen
+    made_call c.args.guard.now c.present_once.new.seat.book c.present_once.new.seat.id v.client.seen w (λ (z : ℕ). computed_with z c.args.key c.in-Some.both) (λ z. refl) (t.0 ∙ i.book) (t.1 ∙ i.id) i.seen
     (subst (λ (z : ℕ). Answers z (computed_with z c.args.key c.in-Some.both) v.client.seen w.client.seen) (sym t.1) answers)
 
 pub loop-preserved : goal.loop-preserved
 loop-preserved g c =
     let i = c.loop.invariant in
-    let v = c.loop.guard-inside.pass.view in
-    let w = c.present_once.new.pass.view in
+    let v = c.loop.guard-inside.seat.view in
+    let w = c.present_once.new.seat.view in
     let t = c.present_once.ensures.told in
-    let id = c.loop.guard-inside.pass.id in
+    let id = c.loop.guard-inside.seat.id in
     let none : c.present_once.result ≡ None = search rules in
     record {
       book = t.0 ∙ i.book;

@@ -4,8 +4,8 @@ use Rattle.live_updates.proofs.computes.present.get_or_insert.Given as goal
 
 abbrev pub invariant-loop : goal.invariant-loop
 invariant-loop l = record {
-  book : l.guard-inside.pass.book ≡ l.fn.guard.book;
-  id : l.guard-inside.pass.id ≡ l.fn.guard.caller;
-  seen : l.guard-inside.pass.view.client.seen ≡ l.fn.guard.seen;
-  ready : IsReady l.guard-inside.pass.view l.guard-inside.room;
+  book : l.guard-inside.seat.book ≡ l.fn.guard.book;
+  id : l.guard-inside.seat.id ≡ l.fn.guard.caller;
+  seen : l.guard-inside.seat.view.client.seen ≡ l.fn.guard.seen;
+  ready : IsReady l.guard-inside.seat.view l.guard-inside.room;
 }

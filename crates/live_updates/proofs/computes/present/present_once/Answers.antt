@@ -12,17 +12,17 @@ use Rattle.live_updates.proofs.Reached.{no_call, call_on}
 use Rattle.live_updates.proofs.computes.present.present_once.Goals as goal
 
 pub seek-requires-clause-legal : goal.seek-requires-clause-legal
-seek-requires-clause-legal g c = present_lookup c.args.pass.now.id c.args.key
+seek-requires-clause-legal g c = present_lookup c.args.seat.now.id c.args.key
 
 pub returns-in_err-seek-clause-reached : goal.returns-in_err-seek-clause-reached
 returns-in_err-seek-clause-reached g c = no_call (goal.F-step g) c.args.f.now
 
 pub returns-in_err-seek-clause-told : goal.returns-in_err-seek-clause-told
 returns-in_err-seek-clause-told g c =
-    let v = c.args.pass.now.view in
-    let w = c.seek.new.pass.view in
+    let v = c.args.seat.now.view in
+    let w = c.seek.new.seat.view in
     let t = c.seek.ensures.told in
-    let id = c.args.pass.now.id in
+    let id = c.args.seat.now.id in
     let key = c.args.key in
     let none : c.seek.result ≡ None = search rules in
     let out : c.from_residual.result ≡ None = search rules in
@@ -34,38 +34,38 @@ returns-in-Absent-clause-reached g c = no_call (goal.F-step g) c.args.f.now
 
 pub returns-in-Absent-clause-told : goal.returns-in-Absent-clause-told
 returns-in-Absent-clause-told g c =
-    let v = c.args.pass.now.view in
-    let w = c.seek.new.pass.view in
+    let v = c.args.seat.now.view in
+    let w = c.seek.new.seat.view in
     let t = c.seek.ensures.told in
-    let id = c.args.pass.now.id in
+    let id = c.args.seat.now.id in
     let key = c.args.key in
     let absent : c.seek.result ≡ Some sites.Absent = search rules in
     (t.0, t.1, ready_kept v w c.args.room.now c.requires.ready t.2, at_none (lookup_of id key (without_call id key)) c.seek.result v w absent t.3)
 
 pub exchange_here-requires-clause-ready : goal.exchange_here-requires-clause-ready
-exchange_here-requires-clause-ready g c = ready_kept c.args.pass.now.view c.seek.new.pass.view c.args.room.now c.requires.ready c.seek.ensures.told.2
+exchange_here-requires-clause-ready g c = ready_kept c.args.seat.now.view c.seek.new.seat.view c.args.room.now c.requires.ready c.seek.ensures.told.2
 
 pub exchange_here-requires-clause-legal : goal.exchange_here-requires-clause-legal
-exchange_here-requires-clause-legal g c = present_update c.seek.new.pass.id c.args.key c.in-At.value c.f-new.result
+exchange_here-requires-clause-legal g c = present_update c.seek.new.seat.id c.args.key c.in-At.value c.f-new.result
 
 pub returns-then-is_some-clause-reached : goal.returns-then-is_some-clause-reached
 returns-then-is_some-clause-reached g c = call_on (goal.F-step g) c.args.f.now c.args.f.now c.f-new.new.self c.in-At.value c.f-new.result (no_call (goal.F-step g) c.args.f.now) c.f-new.ensures
 
 pub returns-then-is_some-clause-told : goal.returns-then-is_some-clause-told
 returns-then-is_some-clause-told g c =
-    let v = c.args.pass.now.view in
-    let w = c.seek.new.pass.view in
+    let v = c.args.seat.now.view in
+    let w = c.seek.new.seat.view in
     let t = c.seek.ensures.told in
-    let id = c.args.pass.now.id in
+    let id = c.args.seat.now.id in
     let key = c.args.key in
     let value = c.in-At.value in
     let new = c.f-new.result in
-    let u = c.exchange_here.new.pass.view in
+    let u = c.exchange_here.new.seat.view in
     let e = c.exchange_here.ensures.told in
     let found : c.seek.result ≡ Some (sites.At c.in-At.leaf value) = search rules in
     let same = at_some (lookup_of id key (without_call id key)) c.seek.result c.in-At.leaf value v w found t.3 in
     let some_missed : IsSome c.exchange_here.result = search rules in
-    let later = c.seek.new.pass.id in
+    let later = c.seek.new.seat.id in
     let missed = missed_same (update_of later key (Some value) new (called_with later key (Some value) new)) c.exchange_here.result w u some_missed e.3 in
     (e.0 ∙ t.0, e.1 ∙ t.1, e.2, missed ∙ same)
 
@@ -74,18 +74,18 @@ returns-else-is_some-clause-reached g c = call_on (goal.F-step g) c.args.f.now c
 
 pub returns-else-is_some-clause-told : goal.returns-else-is_some-clause-told
 returns-else-is_some-clause-told g c =
-    let v = c.args.pass.now.view in
-    let w = c.seek.new.pass.view in
+    let v = c.args.seat.now.view in
+    let w = c.seek.new.seat.view in
     let t = c.seek.ensures.told in
-    let id = c.args.pass.now.id in
+    let id = c.args.seat.now.id in
     let key = c.args.key in
     let value = c.in-At.value in
     let new = c.f-new.result in
-    let u = c.exchange_here.new.pass.view in
+    let u = c.exchange_here.new.seat.view in
     let e = c.exchange_here.ensures.told in
     let found : c.seek.result ≡ Some (sites.At c.in-At.leaf value) = search rules in
     let same = at_some (lookup_of id key (without_call id key)) c.seek.result c.in-At.leaf value v w found t.3 in
     let none : c.exchange_here.result ≡ None = search rules in
-    let later = c.seek.new.pass.id in
+    let later = c.seek.new.seat.id in
     let answers = updated_by (update_of later key (Some value) new (called_with later key (Some value) new)) c.exchange_here.result w u none e.3 in
     (e.0 ∙ t.0, e.1 ∙ t.1, e.2, answers_from later id (λ (z : ℕ). computed_with z key (Some (value, new))) w.client.seen v.client.seen u.client.seen t.1 same answers)

@@ -2,9 +2,9 @@ use Rattle.std.proofs.Common.{arith, ◌≡◌, ◌<◌, List, ℕ, length, sym,
 use Rattle.node_base.specs.Form.{next_form}
 use Rattle.node_base.specs.inner.Sorted.{pairs}
 use Rattle.node_forms.proofs.SortedLaws.{length-sorted}
-use Rattle.node_table.specs.TableNode.{TableNodeOf}
-use Rattle.node_table.specs.declared.child.Child.{Child as ChildOf}
-use Rattle.node_table.specs.declared.child.Child.TheVariants.{Node, Payload}
+use Rattle.spec_node.specs.TableNode.{TableNodeOf}
+use Rattle.spec_node.specs.declared.child.Child.{Child as ChildOf}
+use Rattle.spec_node.specs.declared.child.Child.TheVariants.{Node, Payload}
 use Rattle.node_table.specs.inner.Kinds.{mapped}
 use Rattle.node_table.proofs.KindLaws.{one_more}
 use Rattle.node_rows.proofs.KindLaws.{here, node_same, of_kind}

@@ -1,9 +1,9 @@
 use Rattle.std.proofs.Common.{arith, ◌≡◌, ◌<◌, List, ℕ, length, sym, subst, ◌∙◌, ap}
 use Rattle.node_base.specs.Form.{smaller_form}
 use Rattle.node_base.specs.inner.Sorted.{pairs}
-use Rattle.node_table.specs.TableNode.{TableNodeOf}
-use Rattle.node_table.specs.declared.child.Child.{Child as ChildOf}
-use Rattle.node_table.specs.declared.child.Child.TheVariants.{Node, Payload}
+use Rattle.spec_node.specs.TableNode.{TableNodeOf}
+use Rattle.spec_node.specs.declared.child.Child.{Child as ChildOf}
+use Rattle.spec_node.specs.declared.child.Child.TheVariants.{Node, Payload}
 use Rattle.node_table.specs.inner.Kinds.{mapped}
 use Rattle.node_table.proofs.KindLaws.{length-mapped}
 use Rattle.node_rows.proofs.KindLaws.{few_here, here, node_same, of_kind}

@@ -1,4 +1,4 @@
-use Rattle.node_table.specs.declared.child.Child.TheVariants.{Node}
+use Rattle.spec_node.specs.declared.child.Child.TheVariants.{Node}
 use Rattle.node_table.proofs.KindLaws.{lookup-mapped_none, lookup-mapped_some, put_into}
 use Rattle.node_table.proofs.kinds.InnerHeadInTable.exchange.Goals as goal
 

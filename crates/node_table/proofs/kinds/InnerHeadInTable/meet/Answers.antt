@@ -1,8 +1,8 @@
 use Rattle.std.proofs.Common.{◌≡◌, ◌∙◌, Some, None, sym, subst}
 use Rattle.spec_map.specs.Map.{lookup}
-use Rattle.node_table.specs.Key.{next_byte}
+use Rattle.spec_node.specs.Key.{next_byte}
 use Rattle.node_table.specs.inner.Kinds.{places}
-use Rattle.node_table.specs.declared.child.Child.TheVariants.{Node}
+use Rattle.spec_node.specs.declared.child.Child.TheVariants.{Node}
 use Rattle.node_table.proofs.BeginLaws.{begun, parted}
 use Rattle.node_table.proofs.KindLaws.{lookup-mapped_some, lookup-mapped_none}
 use Rattle.node_table.proofs.kinds.InnerHeadInTable.meet.Goals as goal

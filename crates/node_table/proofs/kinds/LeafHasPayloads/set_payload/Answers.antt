@@ -1,6 +1,6 @@
 use Rattle.std.proofs.Common.{◌+◌, subst, sym}
 use Rattle.node_base.specs.Form.{Fits}
-use Rattle.node_table.specs.declared.child.Child.TheVariants.{Payload}
+use Rattle.spec_node.specs.declared.child.Child.TheVariants.{Payload}
 use Rattle.node_table.proofs.KindLaws.{length-mapped, lookup-mapped, lookup-mapped_none, fits_here, put_into, if_ok, on_ok, on_err}
 use Rattle.node_table.proofs.kinds.LeafHasPayloads.set_payload.Goals as goal
 

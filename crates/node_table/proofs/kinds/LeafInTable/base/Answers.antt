@@ -1,6 +1,6 @@
 use Rattle.std.proofs.Common.{sym, ◌∙◌}
-use Rattle.node_table.specs.declared.child.Child.TheVariants.{Payload}
-use Rattle.node_table.specs.declared.child.Child.{Child as ChildOf}
+use Rattle.spec_node.specs.declared.child.Child.TheVariants.{Payload}
+use Rattle.spec_node.specs.declared.child.Child.{Child as ChildOf}
 use Rattle.node_table.proofs.KindLaws.{length-mapped, Rises-mapped}
 use Rattle.node_table.proofs.kinds.LeafInTable.base.Goals as goal
 

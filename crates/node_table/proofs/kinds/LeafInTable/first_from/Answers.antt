@@ -1,5 +1,5 @@
 use Rattle.std.proofs.Common.{sym, ◌∙◌}
-use Rattle.node_table.specs.declared.child.Child.TheVariants.{Payload}
+use Rattle.spec_node.specs.declared.child.Child.TheVariants.{Payload}
 use Rattle.node_table.proofs.KindLaws.{first-mapped, none-mapped}
 use Rattle.node_table.proofs.kinds.LeafInTable.first_from.Goals as goal
 

@@ -1,5 +1,5 @@
 use Rattle.std.proofs.Common.{sym}
-use Rattle.node_table.specs.declared.child.Child.TheVariants.{Payload}
+use Rattle.spec_node.specs.declared.child.Child.TheVariants.{Payload}
 use Rattle.node_table.proofs.KindLaws.{lookup-mapped_some, lookup-mapped_none}
 use Rattle.node_table.proofs.kinds.LeafInTable.get_child.Goals as goal
 

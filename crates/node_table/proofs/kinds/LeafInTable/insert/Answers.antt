@@ -1,4 +1,4 @@
-use Rattle.node_table.specs.declared.child.Child.TheVariants.{Payload}
+use Rattle.spec_node.specs.declared.child.Child.TheVariants.{Payload}
 use Rattle.node_table.proofs.KindLaws.{mapped-absent, fits_here, put_into}
 use Rattle.node_table.proofs.kinds.LeafInTable.insert.Goals as goal
 

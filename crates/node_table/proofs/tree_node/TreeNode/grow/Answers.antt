@@ -1,6 +1,6 @@
 use Rattle.node_base.specs.inner.Sorted.{pairs}
-use Rattle.node_table.specs.declared.child.Child.{Child as ChildOf}
-use Rattle.node_table.specs.declared.child.Child.TheVariants.{Node, Payload}
+use Rattle.spec_node.specs.declared.child.Child.{Child as ChildOf}
+use Rattle.spec_node.specs.declared.child.Child.TheVariants.{Node, Payload}
 use Rattle.node_table.proofs.KindLaws.{one_more}
 use Rattle.node_table.proofs.tree_node.TreeNode.grow.Goals as goal
 use Rattle.node_table.proofs.tree_node.TreeNode.grow.Goals.{in-Inner4+in-Ok, in-Inner16+in-Ok-grown_from_parts, in-Inner48+in-Ok-grown_from, in-Leaf4+in-Ok-grown_from-2, in-Leaf16+in-Ok-grown_from_parts-2, in-Leaf48+in-Ok-grown_from-3}

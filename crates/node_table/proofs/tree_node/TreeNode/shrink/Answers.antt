@@ -1,9 +1,9 @@
 use Rattle.std.proofs.Common.{arith, ◌≡◌, ℕ, ◌<◌, List, length, sym, subst, ◌∙◌, ap, refl}
 use Rattle.node_base.specs.Form.{Fits, smaller_form}
 use Rattle.node_base.specs.inner.Sorted.{pairs}
-use Rattle.node_table.specs.TableNode.{TableNodeOf}
-use Rattle.node_table.specs.declared.child.Child.{Child as ChildOf}
-use Rattle.node_table.specs.declared.child.Child.TheVariants.{Node, Payload}
+use Rattle.spec_node.specs.TableNode.{TableNodeOf}
+use Rattle.spec_node.specs.declared.child.Child.{Child as ChildOf}
+use Rattle.spec_node.specs.declared.child.Child.TheVariants.{Node, Payload}
 use Rattle.node_table.specs.declared.tree_node.NodeKind.{NodeKind}
 use Rattle.node_base.specs.declared.base_node.NodeType.{NodeType}
 use Rattle.node_table.specs.inner.Kinds.{mapped, table_node, IsOfKind}

@@ -2,7 +2,7 @@ use Rattle.std.proofs.Common.{refl, sym, subst, ap, ◌∙◌}
 use Rattle.node_base.specs.Form.{stated_size}
 use Rattle.node_base.specs.declared.base_node.NodeType.{NodeType}
 use Rattle.node_table.specs.Charge.{Covers, add_charge}
-use Rattle.node_table.specs.TableNode.{TableNode}
+use Rattle.spec_node.specs.TableNode.{TableNode}
 use Rattle.olc_machine.proofs.Reclaiming.{freed_by, let_go, node_at, part_covered}
 use Rattle.olc_machine.proofs.inner.Inner.free.Goals as goal
 

@@ -1,7 +1,7 @@
 use Rattle.std.proofs.Common.{◌≡◌, ◌∙◌, ◌<◌, ◌≤◌, length, ap, arith, get_or, map, refl, subst, sym, true}
 use Rattle.std.specs.Int.{from_be_bytes, w64}
 use Rattle.std.proofs.lemmas.Nat.{from_be_bytes-to_be_bytes_8}
-use Rattle.node_table.specs.Key.{AreBytes}
+use Rattle.spec_node.specs.Key.{AreBytes}
 use Rattle.tree_path.specs.inner.Root.{tree_pairs}
 use Rattle.tree_edit.specs.Outside.{outside}
 use Rattle.tree_edit.specs.inner.Rise.{IsRemoval}

@@ -1,5 +1,5 @@
 use Rattle.std.proofs.Common.{rules, ◌≡◌, ◌↔◌, ◌∙◌, length, IsTrue, nat_eq, ap, sym, subst}
-use Rattle.node_table.specs.TableNode.{TableNode}
+use Rattle.spec_node.specs.TableNode.{TableNode}
 use Rattle.node_table.specs.Table.{node_at}
 use Rattle.tree_links.specs.Places.{as_linked}
 use Rattle.tree_links.specs.SeenTable.{name_of}

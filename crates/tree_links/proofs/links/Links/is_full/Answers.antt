@@ -1,6 +1,6 @@
 use Rattle.std.proofs.Common.{◌≡◌, ◌+◌, false, length, IsTrue, subst}
 use Rattle.node_base.specs.Form.{Fits}
-use Rattle.node_table.specs.TableNode.{TableNode}
+use Rattle.spec_node.specs.TableNode.{TableNode}
 use Rattle.node_table.specs.Table.{node_at}
 use Rattle.tree_links.specs.Places.{as_linked}
 use Rattle.tree_links.specs.SeenTable.{name_of}

@@ -1,7 +1,7 @@
 use Rattle.std.proofs.Common.{◌≡◌, ◌<◌, ◌∙◌, [], ◌∷◌, Some, None, option_copied, length, take, drop, get_or, ap, arith, sym, subst, refl}
 use Rattle.std.proofs.lemmas.List.{length-take}
 use Rattle.spec_map.specs.Map.{put}
-use Rattle.node_table.specs.Key.{IsFirstDifference}
+use Rattle.spec_node.specs.Key.{IsFirstDifference}
 use Rattle.tree_links.specs.Places.{as_linked}
 use Rattle.tree_links.specs.LinkNode.{LinkNode}
 use Rattle.tree_links.specs.PairCalls.{HasBelow}

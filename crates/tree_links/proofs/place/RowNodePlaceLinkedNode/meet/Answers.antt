@@ -1,5 +1,5 @@
 use Rattle.std.proofs.Common.{Some, ap, ◌∙◌}
-use Rattle.node_table.specs.declared.child.Child.TheVariants.{Node}
+use Rattle.spec_node.specs.declared.child.Child.TheVariants.{Node}
 use Rattle.node_table.proofs.KindLaws.{lookup-mapped_some, lookup-mapped_none}
 use Rattle.tree_links.specs.Places.{as_link}
 use Rattle.tree_links.specs.declared.place.Place.{Place}

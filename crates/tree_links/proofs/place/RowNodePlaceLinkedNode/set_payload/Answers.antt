@@ -1,6 +1,6 @@
 use Rattle.std.proofs.Common.{◌+◌, refl, subst, sym}
 use Rattle.node_base.specs.Form.{Fits}
-use Rattle.node_table.specs.declared.child.Child.TheVariants.{Payload}
+use Rattle.spec_node.specs.declared.child.Child.TheVariants.{Payload}
 use Rattle.node_table.proofs.KindLaws.{length-mapped, lookup-mapped_none, fits_here, if_ok, on_ok, on_err}
 use Rattle.tree_links.specs.Places.{as_link}
 use Rattle.tree_links.specs.declared.link.Link.TheVariants as links

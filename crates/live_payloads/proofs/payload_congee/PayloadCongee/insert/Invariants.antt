@@ -1,0 +1,7 @@
+use Rattle.std.proofs.Common.{◌≡◌}
+use Rattle.live_payloads.specs.Payloads.{KnowsMore}
+use Rattle.live_payloads.proofs.payload_congee.PayloadCongee.insert.Given as goal
+
+-- the payload came back, and no call of tickets was made
+abbrev pub invariant-loop : goal.invariant-loop
+invariant-loop g l = (l.payload ≡ l.fn.payload) × (l.guard.tickets ≡ l.fn.guard.tickets) × KnowsMore l.fn.guard l.guard

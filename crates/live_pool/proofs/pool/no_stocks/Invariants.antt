@@ -1,5 +1,0 @@
-use Rattle.live_pool.specs.Pools.{AreFor}
-use Rattle.live_pool.proofs.pool.no_stocks.Given as goal
-
-abbrev pub invariant-loop : goal.invariant-loop
-invariant-loop l = AreFor l.fn.map l.stocks.items

@@ -1,5 +1,0 @@
-use Rattle.live_law.proofs.Begun.{begins_there}
-use Rattle.live_reads.proofs.way.root_begun.Goals as goal
-
-pub root_by-requires-clause-learns : goal.root_by-requires-clause-learns
-root_by-requires-clause-learns c = begins_there c.args.pass.now.id c.args.pass.now.view.client

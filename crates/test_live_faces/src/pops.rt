@@ -1,0 +1,239 @@
+//! Pops of both ends, up to a bound, of all forms of nodes, and by threads at once.
+
+ghost use Rattle.std.specs.Prelude.{◌≡◌};
+
+use crate::ranges::{KEYS, Keys, fill};
+use live_faces::live::Congee;
+use std::sync::Wait;
+use std::test::Fail;
+use std::thread::join;
+
+type Map = Congee<u64, u64>;
+
+fn pair(key: Option<u64>) -> Option<(u64, u64)> {
+    let key = key?;
+    Some((key, key ^ 1))
+}
+
+const NINE: Keys = Keys {
+    first: 1000,
+    step: 1000,
+    count: 9,
+};
+
+// Of the keys 1000, 2000 .. 9000 in turn: a bound, and the key that a pop up to it returns.
+const FIRST: [(u64, Option<u64>); 7] = [
+    (999, None),
+    (1000, Some(1000)),
+    (1000, None),
+    (3500, Some(2000)),
+    (3500, Some(3000)),
+    (3500, None),
+    (u64::MAX, Some(4000)),
+];
+
+#[test]
+fn a_pop_up_to_a_key_returns_the_least(rt: HostRuntime) -> Result<(), Fail> {
+    let map: Map = Congee::new(rt.alloc())?;
+    let other: Map = Congee::new(rt.alloc())?;
+    fill(&rt, rt.alloc(), &map, NINE)?;
+    fill(&rt, rt.alloc(), &other, NINE)?;
+    for (key, popped) in FIRST {
+        let mut guard = map.pin();
+        assert!(rt; map.pop_first_to(&rt, &mut guard, &key) == pair(popped));
+        let mut guard = other.pin();
+        assert!(rt; other.try_pop_first_to(&mut guard, &key) == Ok(pair(popped)));
+    }
+    Ok(())
+}
+
+// The same from a bound on.
+const LAST: [(u64, Option<u64>); 7] = [
+    (9001, None),
+    (9000, Some(9000)),
+    (9000, None),
+    (6500, Some(8000)),
+    (6500, Some(7000)),
+    (6500, None),
+    (0, Some(6000)),
+];
+
+#[test]
+fn a_pop_from_a_key_on_returns_the_greatest(rt: HostRuntime) -> Result<(), Fail> {
+    let map: Map = Congee::new(rt.alloc())?;
+    let other: Map = Congee::new(rt.alloc())?;
+    fill(&rt, rt.alloc(), &map, NINE)?;
+    fill(&rt, rt.alloc(), &other, NINE)?;
+    for (key, popped) in LAST {
+        let mut guard = map.pin();
+        assert!(rt; map.pop_last_from(&rt, &mut guard, &key) == pair(popped));
+        let mut guard = other.pin();
+        assert!(rt; other.try_pop_last_from(&mut guard, &key) == Ok(pair(popped)));
+    }
+    Ok(())
+}
+
+#[test]
+fn a_pop_returns_an_end(rt: HostRuntime) -> Result<(), Fail> {
+    let map: Map = Congee::new(rt.alloc())?;
+    let mut guard = map.pin();
+    assert!(rt; map.pop_last(&rt, &mut guard) == None);
+    fill(&rt, rt.alloc(), &map, NINE)?;
+    let _ = map.insert(&rt, rt.alloc(), &mut guard, u64::MAX, 5)?;
+    let _ = map.insert(&rt, rt.alloc(), &mut guard, 0, 6)?;
+    assert!(rt; map.pop_last(&rt, &mut guard) == Some((u64::MAX, 5)));
+    assert!(rt; map.try_pop_last(&mut guard) == Ok(Some((9000, 9001))));
+    assert!(rt; map.pop_first(&rt, &mut guard) == Some((0, 6)));
+    assert!(rt; map.try_pop_first(&mut guard) == Ok(Some((1000, 1001))));
+    Ok(())
+}
+
+// Pops all keys from below, and one more. How many come in order.
+fn rising<R: Wait>(rt: &R, map: &Map, keys: Keys) -> u32 {
+    let mut guard = map.pin();
+    let mut key = keys.first;
+    let mut right = 0u32;
+    for _ in 0..keys.count {
+        if map.pop_first(rt, &mut guard) == Some((key, key ^ 1)) {
+            right = right.wrapping_add(1);
+        }
+        key = key.wrapping_add(keys.step);
+    }
+    if map.pop_first(rt, &mut guard).is_some() {
+        0
+    } else {
+        right
+    }
+}
+
+// Pops all keys from above, and one more. How many come in order.
+fn falling<R: Wait>(rt: &R, map: &Map, keys: Keys) -> u32 {
+    let mut guard = map.pin();
+    let mut key = keys
+        .first
+        .wrapping_add(keys.step.wrapping_mul(u64::from(keys.count)));
+    let mut right = 0u32;
+    for _ in 0..keys.count {
+        key = key.wrapping_sub(keys.step);
+        if map.pop_last(rt, &mut guard) == Some((key, key ^ 1)) {
+            right = right.wrapping_add(1);
+        }
+    }
+    if map.pop_last(rt, &mut guard).is_some() {
+        0
+    } else {
+        right
+    }
+}
+
+#[test]
+fn pops_return_all_pairs_in_order(rt: HostRuntime) -> Result<(), Fail> {
+    for keys in KEYS {
+        let map: Map = Congee::new(rt.alloc())?;
+        fill(&rt, rt.alloc(), &map, keys)?;
+        assert!(rt; rising(&rt, &map, keys) == keys.count);
+        fill(&rt, rt.alloc(), &map, keys)?;
+        assert!(rt; falling(&rt, &map, keys) == keys.count);
+    }
+    Ok(())
+}
+
+// The even keys below this one are there until they are popped. A writer enters the odd ones.
+const END: u64 = 6000;
+
+const EVEN: Keys = Keys {
+    first: 0,
+    step: 2,
+    count: 3000,
+};
+
+const ODD: Keys = Keys {
+    first: 1,
+    step: 2,
+    count: 3000,
+};
+
+// Pops from below until there is none. How many came, or `None` where a pop passed an even key.
+fn popped_from_below<R: Wait>(rt: &R, map: &Map) -> Option<u64> {
+    let mut guard = map.pin();
+    let mut even = 0u64;
+    let mut count = 0u64;
+    for _ in 0..u64::MAX {
+        let Some((key, value)) = map.pop_first(rt, &mut guard) else {
+            return Some(count);
+        };
+        if value != key ^ 1 || (even < END && key > even) {
+            return None;
+        }
+        if key == even {
+            even = even.wrapping_add(2);
+        }
+        count = count.wrapping_add(1);
+    }
+    None
+}
+
+#[test]
+fn a_pop_passes_no_key_that_stays_beside_a_writer(rt: HostRuntime) -> Result<(), Fail> {
+    let map: Map = Congee::new(rt.alloc())?;
+    fill(&rt, rt.alloc(), &map, EVEN)?;
+    let (filled, count) = join(
+        &rt,
+        || fill(&rt, rt.alloc(), &map, ODD),
+        || popped_from_below(&rt, &map),
+    );
+    assert!(rt; filled.is_ok());
+    let popped = u128::from(count.unwrap_or(0));
+    let mut guard = map.pin();
+    assert!(rt; popped.wrapping_add(map.clear(&rt, &mut guard)) == u128::from(END));
+    Ok(())
+}
+
+// Pops from one end until there is none: how many, and the sum of their keys. `None` where the keys don't go on from there.
+fn popped_in_order<R: Wait>(rt: &R, map: &Map, up: bool) -> Option<(u64, u64)> {
+    let mut guard = map.pin();
+    let mut from = if up { 0 } else { u64::MAX };
+    let mut sum = 0u64;
+    for count in 0..u64::MAX {
+        let found = if up {
+            map.pop_first(rt, &mut guard)
+        } else {
+            map.pop_last(rt, &mut guard)
+        };
+        let Some((key, _)) = found else {
+            return Some((count, sum));
+        };
+        if if up { key < from } else { key > from } {
+            return None;
+        }
+        from = key;
+        sum = sum.wrapping_add(key);
+    }
+    None
+}
+
+fn added(a: Option<(u64, u64)>, b: Option<(u64, u64)>) -> Option<(u64, u64)> {
+    let (a, b) = (a?, b?);
+    Some((a.0.wrapping_add(b.0), a.1.wrapping_add(b.1)))
+}
+
+#[test]
+fn each_pair_goes_to_one_of_three_threads(rt: HostRuntime) -> Result<(), Fail> {
+    let map: Map = Congee::new(rt.alloc())?;
+    fill(&rt, rt.alloc(), &map, EVEN)?;
+    fill(&rt, rt.alloc(), &map, ODD)?;
+    let (low, high) = join(
+        &rt,
+        || {
+            join(
+                &rt,
+                || popped_in_order(&rt, &map, true),
+                || popped_in_order(&rt, &map, true),
+            )
+        },
+        || popped_in_order(&rt, &map, false),
+    );
+    let all = added(added(low.0, low.1), high);
+    assert!(rt; all == Some((END, END * (END - 1) / 2)));
+    Ok(())
+}

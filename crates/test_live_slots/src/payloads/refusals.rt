@@ -1,0 +1,91 @@
+//! Insertions where an allocation is refused. The payload comes back then, and goes in at the next try.
+ghost use Rattle.live_payloads.specs.Payloads.{IsGuardOf};
+
+use super::{Guard, Map, get};
+use std::alloc::Global;
+use std::sync::{Arc, Wait};
+
+const COUNT: u64 = 300;
+
+const STEP: u64 = 0x9e37_79b9_7f4a_7c15;
+
+// A map, also where memory is refused once.
+fn made(alloc: Global) -> Option<Map> {
+    match Map::new(alloc) {
+        Ok(map) => Some(map),
+        Err(_) => Map::new(alloc).ok(),
+    }
+}
+
+// An owner, also where memory is refused once.
+fn owner_of(alloc: Global) -> Option<Arc<u64>> {
+    match Arc::new(alloc, 5u64) {
+        Ok(owner) => Some(owner),
+        Err(_) => Arc::new(alloc, 5u64).ok(),
+    }
+}
+
+// Inserts an owner. What comes back is inserted again.
+fn entered<R: Wait>(
+    rt: &R,
+    alloc: Global,
+    map: &Map,
+    guard: &mut Guard,
+    key: u64,
+    one: Arc<u64>,
+) -> bool
+    requires { IsGuardOf map.now guard.old }
+    ensures { IsGuardOf map.now guard.new }
+{
+    let back = match map.insert(rt, alloc, guard, key, one) {
+        Ok(before) => return before.is_none(),
+        Err(failed) => failed.value,
+    };
+    match map.insert(rt, alloc, guard, key, back) {
+        Ok(before) => before.is_none(),
+        Err(_) => false,
+    }
+}
+
+// Inserts the owner at keys far from one another: how many of them have it then.
+fn filled<R: Wait>(
+    rt: &R,
+    alloc: Global,
+    map: &Map,
+    guard: &mut Guard,
+    owner: &Arc<u64>,
+) -> Option<u64>
+    requires { IsGuardOf map.now guard.old }
+    ensures { IsGuardOf map.now guard.new }
+{
+    let mut found = 0u64;
+    let mut key = 3u64;
+    for _ in 0..COUNT {
+        let one = Arc::try_clone(owner).ok()?;
+        if entered(rt, alloc, map, guard, key, one) && get(rt, map, guard, key) == Some(5) {
+            found = found.wrapping_add(1);
+        }
+        key = key.wrapping_add(STEP);
+    }
+    Some(found)
+}
+
+// How many keys have the owner, if there are as many owners.
+fn kept<R: Wait>(rt: &R, alloc: Global) -> Option<u64> {
+    let map = made(alloc)?;
+    let owner = owner_of(alloc)?;
+    let mut guard = map.pin();
+    let found = filled(rt, alloc, &map, &mut guard, &owner)?;
+    map.unpin(guard);
+    if Arc::strong_count(&owner) as u64 == found.wrapping_add(1) {
+        Some(found)
+    } else {
+        None
+    }
+}
+
+// It passes whichever allocation is refused.
+#[test]
+fn refused_memory_loses_no_payload(rt: HostRuntime) {
+    assert!(rt; kept(&rt, rt.alloc()) == Some(COUNT));
+}

@@ -1,5 +1,0 @@
-use Rattle.test_share_hostile.proofs.tests.gates.goes_on.Given as goal
-
--- the ledger that was just opened
-abbrev pub ghosts-beside : goal.ghosts-beside
-ghosts-beside g a = record { name = a.blank.name; parts = a.blank.parts }

@@ -1,6 +1,0 @@
--- The guard is one of this map.
-use Rattle.std.proofs.Common.{◌≡◌}
-use Rattle.test_share_sharded.proofs.points.right_exchanges.Given as goal
-
-abbrev pub invariant-loop-old : goal.invariant-loop-old
-invariant-loop-old g l = l.guard.table ≡ l.map.table

@@ -1,6 +1,0 @@
--- The guard is one of this map.
-use Rattle.std.proofs.Common.{◌≡◌}
-use Rattle.test_share_sharded.proofs.threads.adds.Given as goal
-
-abbrev pub invariant-loop : goal.invariant-loop
-invariant-loop g l = l.guard.table ≡ l.map.table

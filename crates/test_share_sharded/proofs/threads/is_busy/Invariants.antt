@@ -1,6 +1,0 @@
--- The guard is one of this map.
-use Rattle.std.proofs.Common.{◌≡◌}
-use Rattle.test_share_sharded.proofs.threads.is_busy.Given as goal
-
-abbrev pub invariant-loop : goal.invariant-loop
-invariant-loop l = l.guard.table ≡ l.map.table

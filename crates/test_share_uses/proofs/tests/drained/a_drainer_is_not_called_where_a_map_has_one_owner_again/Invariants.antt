@@ -1,5 +1,0 @@
-use Rattle.test_share_uses.proofs.tests.drained.a_drainer_is_not_called_where_a_map_has_one_owner_again.Given as goal
-
--- the ledger that was just opened
-abbrev pub ghosts-owned : goal.ghosts-owned
-ghosts-owned g a = record { name = a.blank.name; parts = a.blank.parts }

@@ -1,4 +1,0 @@
-mod drained;
-mod meetings;
-mod one_seat;
-mod seats;
