@@ -5,9 +5,12 @@ ghost use Rattle.std.specs.Prelude.{◌≡◌, ◌^◌, ◌-◌, ℕ, [], Some, 
 ghost use Rattle.live_slots.specs.Tickets.{HasIssued, IsNew};
 ghost use Rattle.live_payloads.specs.Payloads.{IsGuardOf, KnowsMore, IsPayloadOf, LookedInVain, GetsPayload, lent_value};
 
+mod computed;
 mod counts;
 mod exchanges;
+mod neighbours;
 pub mod owners;
+mod pops;
 mod updates;
 
 use crate::guard::PayloadGuard;

@@ -2,9 +2,12 @@
 ghost use Rattle.live_payloads.specs.Payloads.{IsGuardOf};
 
 mod alone;
+mod beside;
 mod churn;
+mod computed;
 mod exchanges;
 mod limits;
+mod neighbours;
 mod refusals;
 
 use live_payloads::live::{CongeeArc, PayloadGuard};
