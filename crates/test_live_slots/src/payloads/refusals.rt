@@ -1,4 +1,4 @@
-//! Insertions where an allocation is refused. The payload comes back then, and goes in at the next try.
+//! Calls that store a payload, where an allocation is refused. The payload comes back then, and goes in at the next try.
 ghost use Rattle.live_payloads.specs.Payloads.{IsGuardOf};
 
 use super::{Guard, Map, get};
@@ -70,12 +70,82 @@ fn filled<R: Wait>(
     Some(found)
 }
 
+// Hands an owner in at an absent key. What comes back is handed in again.
+fn added<R: Wait>(
+    rt: &R,
+    alloc: Global,
+    map: &Map,
+    guard: &mut Guard,
+    key: u64,
+    one: Arc<u64>,
+) -> bool
+    requires { IsGuardOf map.now guard.old }
+    ensures { IsGuardOf map.now guard.new }
+{
+    let back = match map.get_or_insert(rt, alloc, guard, key, one) {
+        Ok((_, present)) => return present.is_none(),
+        Err(failed) => failed.value,
+    };
+    match map.get_or_insert(rt, alloc, guard, key, back) {
+        Ok((_, present)) => present.is_none(),
+        Err(_) => false,
+    }
+}
+
+// Replaces the key's owner by a further one, also where memory is refused once.
+fn replaced<R: Wait>(
+    rt: &R,
+    alloc: Global,
+    map: &Map,
+    guard: &mut Guard,
+    key: u64,
+    owner: &Arc<u64>,
+) -> bool
+    requires { IsGuardOf map.now guard.old }
+    ensures { IsGuardOf map.now guard.new }
+{
+    let mut f = |_: &Arc<u64>| Arc::try_clone(owner).ok();
+    match map.compute_if_present(rt, alloc, guard, &key, &mut f) {
+        Ok(before) => return before.is_some(),
+        Err(failed) => drop(failed),
+    }
+    map.compute_if_present(rt, alloc, guard, &key, &mut f)
+        .is_ok_and(|before| before.is_some())
+}
+
+// Hands an owner in at keys far from one another, and replaces it there: how many of them have it then.
+fn exchanged<R: Wait>(
+    rt: &R,
+    alloc: Global,
+    map: &Map,
+    guard: &mut Guard,
+    owner: &Arc<u64>,
+) -> Option<u64>
+    requires { IsGuardOf map.now guard.old }
+    ensures { IsGuardOf map.now guard.new }
+{
+    let mut found = 0u64;
+    let mut key = 3u64;
+    for _ in 0..COUNT {
+        let one = Arc::try_clone(owner).ok()?;
+        if added(rt, alloc, map, guard, key, one) && replaced(rt, alloc, map, guard, key, owner) {
+            found = found.wrapping_add(1);
+        }
+        key = key.wrapping_add(STEP);
+    }
+    Some(found)
+}
+
 // How many keys have the owner, if there are as many owners.
-fn kept<R: Wait>(rt: &R, alloc: Global) -> Option<u64> {
+fn kept<R: Wait>(rt: &R, alloc: Global, by_insertions: bool) -> Option<u64> {
     let map = made(alloc)?;
     let owner = owner_of(alloc)?;
     let mut guard = map.pin();
-    let found = filled(rt, alloc, &map, &mut guard, &owner)?;
+    let found = if by_insertions {
+        filled(rt, alloc, &map, &mut guard, &owner)?
+    } else {
+        exchanged(rt, alloc, &map, &mut guard, &owner)?
+    };
     map.unpin(guard);
     if Arc::strong_count(&owner) as u64 == found.wrapping_add(1) {
         Some(found)
@@ -87,5 +157,11 @@ fn kept<R: Wait>(rt: &R, alloc: Global) -> Option<u64> {
 // It passes whichever allocation is refused.
 #[test]
 fn refused_memory_loses_no_payload(rt: HostRuntime) {
-    assert!(rt; kept(&rt, rt.alloc()) == Some(COUNT));
+    assert!(rt; kept(&rt, rt.alloc(), true) == Some(COUNT));
+}
+
+// It passes whichever allocation is refused.
+#[test]
+fn refused_memory_loses_no_computed_payload(rt: HostRuntime) {
+    assert!(rt; kept(&rt, rt.alloc(), false) == Some(COUNT));
 }
