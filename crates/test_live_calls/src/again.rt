@@ -2,8 +2,10 @@
 
 ghost use Rattle.std.specs.Prelude.{◌≡◌};
 
+use crate::calls::{all_hold, get};
 use live_growth::map::{Congee, Guard};
 use std::alloc::Global;
+use std::process::Abort;
 use std::test::Fail;
 
 // Inserts so many keys, one after another, each with a value of its own. Returns whether all were new.
@@ -45,57 +47,90 @@ fn all_found(map: &Congee, guard: &mut Guard, first: u64, count: u32) -> bool
 }
 
 // A leaf grows twice and leaves two nodes behind. The next leaf is one of them, and grows into the other one.
+fn grow_into_left_nodes(rt: &impl Abort, alloc: Global, map: &Congee, guard: &mut Guard)
+    requires { guard.old.book ≡ map.now }
+{
+    let new = all_new(map, alloc, guard, 0, 17);
+    let start = guard.room.start;
+    let steps = [
+        new,
+        all_new(map, alloc, guard, 1 << 56, 16),
+        guard.room.start == start,
+        all_new(map, alloc, guard, 2 << 56, 4),
+        guard.room.start == start,
+        all_new(map, alloc, guard, 3 << 56, 1),
+        guard.room.start.wrapping_sub(start) == 7,
+        all_found(map, guard, 0, 17),
+        all_found(map, guard, 1 << 56, 16),
+        all_found(map, guard, 2 << 56, 4),
+    ];
+    all_hold(rt, &steps);
+}
+
 #[test]
 fn a_node_that_outgrew_its_form_is_the_next_of_that_form(rt: HostRuntime) -> Result<(), Fail> {
     let map = Congee::new(rt.alloc())?;
-    let mut guard = map.pin();
-    assert!(rt; all_new(&map, rt.alloc(), &mut guard, 0, 17));
-    let start = guard.room.start;
-    assert!(rt; all_new(&map, rt.alloc(), &mut guard, 1 << 56, 16));
-    assert!(rt; guard.room.start == start);
-    assert!(rt; all_new(&map, rt.alloc(), &mut guard, 2 << 56, 4));
-    assert!(rt; guard.room.start == start);
-    assert!(rt; all_new(&map, rt.alloc(), &mut guard, 3 << 56, 1));
-    assert!(rt; guard.room.start.wrapping_sub(start) == 7);
-    assert!(rt; all_found(&map, &mut guard, 0, 17));
-    assert!(rt; all_found(&map, &mut guard, 1 << 56, 16));
-    assert!(rt; all_found(&map, &mut guard, 2 << 56, 4));
+    grow_into_left_nodes(&rt, rt.alloc(), &map, &mut map.pin());
     Ok(())
 }
 
 // A node comes above another one where paths part. It is one that outgrew its form.
+fn split_by_a_left_node(rt: &impl Abort, alloc: Global, map: &Congee, guard: &mut Guard)
+    requires { guard.old.book ≡ map.now }
+{
+    let first = all_new(map, alloc, guard, 1 << 56, 1);
+    let grown = all_new(map, alloc, guard, 0, 5);
+    let start = guard.room.start;
+    let spare = guard.room.spare.n4;
+    let steps = [
+        first,
+        grown,
+        spare != 0,
+        all_new(map, alloc, guard, (1 << 56) + (1 << 24), 1),
+        guard.room.start.wrapping_sub(start) == 7,
+        guard.room.spare.n4 == 0,
+        all_found(map, guard, 1 << 56, 1),
+        all_found(map, guard, (1 << 56) + (1 << 24), 1),
+        all_found(map, guard, 0, 5),
+    ];
+    all_hold(rt, &steps);
+}
+
 #[test]
 fn a_split_takes_a_node_that_outgrew_its_form(rt: HostRuntime) -> Result<(), Fail> {
     let map = Congee::new(rt.alloc())?;
-    let mut guard = map.pin();
-    assert!(rt; all_new(&map, rt.alloc(), &mut guard, 1 << 56, 1));
-    assert!(rt; all_new(&map, rt.alloc(), &mut guard, 0, 5));
-    let start = guard.room.start;
-    let spare = guard.room.spare.n4;
-    assert!(rt; spare != 0);
-    assert!(rt; all_new(&map, rt.alloc(), &mut guard, (1 << 56) + (1 << 24), 1));
-    assert!(rt; guard.room.start.wrapping_sub(start) == 7);
-    assert!(rt; guard.room.spare.n4 == 0);
-    assert!(rt; all_found(&map, &mut guard, 1 << 56, 1));
-    assert!(rt; all_found(&map, &mut guard, (1 << 56) + (1 << 24), 1));
-    assert!(rt; all_found(&map, &mut guard, 0, 5));
+    split_by_a_left_node(&rt, rt.alloc(), &map, &mut map.pin());
     Ok(())
 }
 
 // Another guard has met the node before, and finds there what it has now. It writes there too.
+fn read_it_again(
+    rt: &impl Abort,
+    alloc: Global,
+    map: &Congee,
+    writer: &mut Guard,
+    reader: &mut Guard,
+)
+    requires writer { writer.old.book ≡ map.now }
+    requires reader { reader.old.book ≡ map.now }
+{
+    let steps = [
+        all_new(map, alloc, writer, 0, 4),
+        all_found(map, reader, 0, 4),
+        all_new(map, alloc, writer, 4, 1),
+        all_new(map, alloc, writer, 1 << 56, 2),
+        all_found(map, reader, 0, 5),
+        all_found(map, reader, 1 << 56, 2),
+        get(map, reader, (1 << 56) + 3) == Ok(None),
+        all_new(map, alloc, reader, (1 << 56) + 2, 2),
+        all_found(map, writer, 1 << 56, 4),
+    ];
+    all_hold(rt, &steps);
+}
+
 #[test]
 fn a_node_that_is_used_again_is_read_as_what_it_is_now(rt: HostRuntime) -> Result<(), Fail> {
     let map = Congee::new(rt.alloc())?;
-    let mut writer = map.pin();
-    let mut reader = map.pin();
-    assert!(rt; all_new(&map, rt.alloc(), &mut writer, 0, 4));
-    assert!(rt; all_found(&map, &mut reader, 0, 4));
-    assert!(rt; all_new(&map, rt.alloc(), &mut writer, 4, 1));
-    assert!(rt; all_new(&map, rt.alloc(), &mut writer, 1 << 56, 2));
-    assert!(rt; all_found(&map, &mut reader, 0, 5));
-    assert!(rt; all_found(&map, &mut reader, 1 << 56, 2));
-    assert!(rt; map.get(&mut reader, (1 << 56) + 3) == Ok(None));
-    assert!(rt; all_new(&map, rt.alloc(), &mut reader, (1 << 56) + 2, 2));
-    assert!(rt; all_found(&map, &mut writer, 1 << 56, 4));
+    read_it_again(&rt, rt.alloc(), &map, &mut map.pin(), &mut map.pin());
     Ok(())
 }

@@ -1,26 +1,52 @@
 //! Each call by one thread, and a key that two threads count up.
 
-use live_growth::map::{Busy, Congee, Refusal};
+ghost use Rattle.std.specs.Prelude.{◌≡◌};
+
+use crate::calls::{all_hold, get, insert, looked};
+use live_growth::map::{Busy, Congee, Guard, Refusal};
 use live_updates::computes::present::{add, compute_if_present, compute_or_insert, get_or_insert};
 use std::alloc::Global;
+use std::process::Abort;
 use std::test::Fail;
 use std::thread::{Threads, join};
+
+// What a call returns whose closure triples the value.
+fn tripled(map: &Congee, guard: &mut Guard, key: u64) -> Result<Option<(u64, Option<u64>)>, Busy>
+    requires { guard.old.book ≡ map.now }
+    ensures { guard.new.book ≡ map.now }
+{
+    let mut thrice = |value: u64| -> Option<u64> { Some(value.wrapping_mul(3)) };
+    compute_if_present(map, guard, key, &mut thrice)
+}
+
+// What a call returns whose closure removes the value.
+fn emptied(map: &Congee, guard: &mut Guard, key: u64) -> Result<Option<(u64, Option<u64>)>, Busy>
+    requires { guard.old.book ≡ map.now }
+    ensures { guard.new.book ≡ map.now }
+{
+    let mut gone = |_: u64| -> Option<u64> { None };
+    compute_if_present(map, guard, key, &mut gone)
+}
+
+fn replace_and_remove(rt: &impl Abort, alloc: Global, map: &Congee, guard: &mut Guard)
+    requires { guard.old.book ≡ map.now }
+{
+    let steps = [
+        insert(map, alloc, guard, 0x0102, 5) == Ok(None),
+        tripled(map, guard, 0x0102) == Ok(Some((5, Some(15)))),
+        tripled(map, guard, 0x0103) == Ok(None),
+        get(map, guard, 0x0102) == Ok(Some(15)),
+        emptied(map, guard, 0x0102) == Ok(Some((15, None))),
+        emptied(map, guard, 0x0102) == Ok(None),
+        get(map, guard, 0x0102) == Ok(None),
+    ];
+    all_hold(rt, &steps);
+}
 
 #[test]
 fn a_present_value_is_replaced_or_removed(rt: HostRuntime) -> Result<(), Fail> {
     let map = Congee::new(rt.alloc())?;
-    let mut guard = map.pin();
-    assert!(rt; map.insert(rt.alloc(), &mut guard, 0x0102, 5) == Ok(None));
-    let mut thrice = |value: u64| -> Option<u64> { Some(value.wrapping_mul(3)) };
-    assert!(rt;
-        compute_if_present(&map, &mut guard, 0x0102, &mut thrice) == Ok(Some((5, Some(15))))
-    );
-    assert!(rt; compute_if_present(&map, &mut guard, 0x0103, &mut thrice) == Ok(None));
-    assert!(rt; map.get(&mut guard, 0x0102) == Ok(Some(15)));
-    let mut gone = |_: u64| -> Option<u64> { None };
-    assert!(rt; compute_if_present(&map, &mut guard, 0x0102, &mut gone) == Ok(Some((15, None))));
-    assert!(rt; compute_if_present(&map, &mut guard, 0x0102, &mut gone) == Ok(None));
-    assert!(rt; map.get(&mut guard, 0x0102) == Ok(None));
+    replace_and_remove(&rt, rt.alloc(), &map, &mut map.pin());
     Ok(())
 }
 
@@ -40,30 +66,38 @@ fn kept(map: &Congee, alloc: Global, key: u64, value: u64) -> Result<Option<u64>
     get_or_insert(map, alloc, &mut guard, key, value)
 }
 
-// The value of a key, by a caller of its own.
-fn looked(map: &Congee, key: u64) -> Result<Option<u64>, Busy> {
-    let mut guard = map.pin();
-    map.get(&mut guard, key)
+fn raise(rt: &impl Abort, alloc: Global, map: &Congee, key: u64) {
+    let steps = [
+        raised(map, alloc, key) == Ok(None),
+        raised(map, alloc, key) == Ok(Some(42)),
+        looked(map, key) == Ok(Some(44)),
+    ];
+    all_hold(rt, &steps);
 }
 
 #[test]
 fn an_absent_key_gets_what_the_closure_returns(rt: HostRuntime) -> Result<(), Fail> {
     let map = Congee::new(rt.alloc())?;
     for key in KEYS {
-        assert!(rt; raised(&map, rt.alloc(), key) == Ok(None));
-        assert!(rt; raised(&map, rt.alloc(), key) == Ok(Some(42)));
-        assert!(rt; looked(&map, key) == Ok(Some(44)));
+        raise(&rt, rt.alloc(), &map, key);
     }
     Ok(())
+}
+
+fn keep(rt: &impl Abort, alloc: Global, map: &Congee, key: u64) {
+    let steps = [
+        kept(map, alloc, key, key ^ 1) == Ok(None),
+        kept(map, alloc, key, 9) == Ok(Some(key ^ 1)),
+        looked(map, key) == Ok(Some(key ^ 1)),
+    ];
+    all_hold(rt, &steps);
 }
 
 #[test]
 fn a_present_key_keeps_its_value(rt: HostRuntime) -> Result<(), Fail> {
     let map = Congee::new(rt.alloc())?;
     for key in KEYS {
-        assert!(rt; kept(&map, rt.alloc(), key, key ^ 1) == Ok(None));
-        assert!(rt; kept(&map, rt.alloc(), key, 9) == Ok(Some(key ^ 1)));
-        assert!(rt; looked(&map, key) == Ok(Some(key ^ 1)));
+        keep(&rt, rt.alloc(), &map, key);
     }
     Ok(())
 }
@@ -83,14 +117,18 @@ const SUMS: [(u64, Option<u64>); 5] = [
     (1, Some(10)),
 ];
 
+fn add_up(rt: &impl Abort, alloc: Global, map: &Congee, key: u64) {
+    for (number, before) in SUMS {
+        assert!(rt; added(map, alloc, key, number) == Ok(before));
+    }
+    assert!(rt; looked(map, key) == Ok(Some(11)));
+}
+
 #[test]
 fn a_number_is_added_to_the_value(rt: HostRuntime) -> Result<(), Fail> {
     let map = Congee::new(rt.alloc())?;
     for key in KEYS {
-        for (number, before) in SUMS {
-            assert!(rt; added(&map, rt.alloc(), key, number) == Ok(before));
-        }
-        assert!(rt; looked(&map, key) == Ok(Some(11)));
+        add_up(&rt, rt.alloc(), &map, key);
     }
     Ok(())
 }

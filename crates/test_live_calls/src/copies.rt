@@ -1,9 +1,8 @@
 //! A copy alone, and beside a writer.
 
-ghost use Rattle.std.specs.Prelude.{◌≡◌};
-
+use crate::calls::{is_new, made};
 use live_copies::copy::copy;
-use live_growth::map::{Congee, Guard, Refusal};
+use live_growth::map::{Congee, Refusal};
 use std::alloc::Global;
 use std::thread::{Threads, join};
 
@@ -54,14 +53,6 @@ const KEYS: [Keys; 7] = [
     },
 ];
 
-// A map, also where memory is refused once.
-fn made(alloc: Global) -> Option<Congee> {
-    match Congee::new(alloc) {
-        Ok(map) => Some(map),
-        Err(_) => Congee::new(alloc).ok(),
-    }
-}
-
 // The value of a key.
 fn value_of(key: u64) -> u64 {
     key ^ 0x55
@@ -73,25 +64,12 @@ fn fill(map: &Congee, alloc: Global, keys: Keys) -> u32 {
     let mut key = keys.first;
     let mut new = 0u32;
     for _ in 0..keys.count {
-        if is_new(map, alloc, &mut guard, key) {
+        if is_new(map, alloc, &mut guard, key, value_of(key)) {
             new = new.wrapping_add(1);
         }
         key = key.wrapping_add(keys.step);
     }
     new
-}
-
-// Inserts a key, again where memory is refused or another thread is in the way. Returns whether it was new.
-fn is_new(map: &Congee, alloc: Global, guard: &mut Guard, key: u64) -> bool
-    requires { guard.old.book ≡ map.now }
-    ensures { guard.new.book ≡ map.now }
-{
-    for _ in 0..1_000_000u32 {
-        if let Ok(before) = map.insert(alloc, guard, key, value_of(key)) {
-            return before.is_none();
-        }
-    }
-    false
 }
 
 // A copy, also where memory is refused once.
@@ -153,7 +131,8 @@ fn copies(alloc: Global, keys: Keys) -> bool {
         return false;
     }
     let mut guard = map.pin();
-    is_new(&map, alloc, &mut guard, 0x0f0f_0f0f_0f0f_0f0e)
+    let more = 0x0f0f_0f0f_0f0f_0f0e;
+    is_new(&map, alloc, &mut guard, more, value_of(more))
 }
 
 #[test]

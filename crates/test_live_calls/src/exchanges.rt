@@ -1,8 +1,10 @@
 //! Exchanges, by one thread and by four.
 
+use crate::calls::{all_hold, looked, put};
 use live_growth::map::{Busy, Congee};
 use live_updates::calls::compare_exchange;
 use std::alloc::Global;
+use std::process::Abort;
 use std::test::Fail;
 use std::thread::{Threads, join};
 
@@ -17,12 +19,6 @@ fn swapped(
     compare_exchange(map, &mut guard, key, old, Some(new))
 }
 
-// The value of a key, by a caller of its own.
-fn looked(map: &Congee, key: u64) -> Result<Option<u64>, Busy> {
-    let mut guard = map.pin();
-    map.get(&mut guard, key)
-}
-
 // The value that is expected, the one to replace it, and what is stored then, of a key that has 5 at first.
 const STEPS: [(u64, u64, u64); 6] = [
     (4, 9, 5),
@@ -33,39 +29,47 @@ const STEPS: [(u64, u64, u64); 6] = [
     (u64::MAX, 0, 0),
 ];
 
-#[test]
-fn a_value_is_replaced_if_it_is_the_expected_one(rt: HostRuntime) -> Result<(), Fail> {
-    let map = Congee::new(rt.alloc())?;
-    let mut guard = map.pin();
-    assert!(rt; map.insert(rt.alloc(), &mut guard, 0x0102, 5) == Ok(None));
+fn exchange_in_turn(rt: &impl Abort, map: &Congee) {
     let mut now = 5u64;
     for (old, new, then) in STEPS {
-        let done = swapped(&map, 0x0102, old, new);
         let wanted = if old == now {
             Ok(Ok(Some(new)))
         } else {
             Ok(Err(Some(now)))
         };
-        assert!(rt; done == wanted);
-        assert!(rt; looked(&map, 0x0102) == Ok(Some(then)));
+        assert!(rt; swapped(map, 0x0102, old, new) == wanted);
+        assert!(rt; looked(map, 0x0102) == Ok(Some(then)));
         now = then;
     }
+}
+
+#[test]
+fn a_value_is_replaced_if_it_is_the_expected_one(rt: HostRuntime) -> Result<(), Fail> {
+    let map = Congee::new(rt.alloc())?;
+    assert!(rt; put(&map, rt.alloc(), 0x0102, 5) == Ok(None));
+    exchange_in_turn(&rt, &map);
     Ok(())
 }
 
 // Keys that are absent: beside the one that is there, in a node beside its leaf, and in no node.
 const ABSENT: [u64; 4] = [0x0103, 0x0202, 0, u64::MAX];
 
+fn exchange_absent(rt: &impl Abort, alloc: Global, map: &Congee) {
+    let steps = [
+        swapped(map, 0x0102, 0, 1) == Ok(Err(None)),
+        put(map, alloc, 0x0102, 5) == Ok(None),
+    ];
+    all_hold(rt, &steps);
+    for key in ABSENT {
+        assert!(rt; swapped(map, key, 0, 1) == Ok(Err(None)));
+        assert!(rt; looked(map, key) == Ok(None));
+    }
+}
+
 #[test]
 fn an_absent_key_has_no_value_to_replace(rt: HostRuntime) -> Result<(), Fail> {
     let map = Congee::new(rt.alloc())?;
-    assert!(rt; swapped(&map, 0x0102, 0, 1) == Ok(Err(None)));
-    let mut guard = map.pin();
-    assert!(rt; map.insert(rt.alloc(), &mut guard, 0x0102, 5) == Ok(None));
-    for key in ABSENT {
-        assert!(rt; swapped(&map, key, 0, 1) == Ok(Err(None)));
-        assert!(rt; looked(&map, key) == Ok(None));
-    }
+    exchange_absent(&rt, rt.alloc(), &map);
     Ok(())
 }
 

@@ -2,6 +2,7 @@
 
 ghost use Rattle.std.specs.Prelude.{◌≡◌};
 
+use crate::calls::{all_hold, get, insert, put, remove_by};
 use live_growth::held::lock_node;
 use live_growth::map::{Busy, Congee, Guard, Refusal};
 use live_reads::descend::descend;
@@ -9,6 +10,7 @@ use live_reads::path::words_at;
 use live_updates::calls::remove;
 use live_updates::computes::present::add;
 use std::alloc::Global;
+use std::process::Abort;
 use std::test::Fail;
 
 // Keys far from one another.
@@ -60,55 +62,93 @@ fn replaced(map: &Congee, alloc: Global, guard: &mut Guard, count: u64) -> u64
     right
 }
 
+// What `add` returns by this guard, which adds 1 to a key's value.
+fn add_one(map: &Congee, alloc: Global, guard: &mut Guard, key: u64) -> Result<Option<u64>, Refusal>
+    requires { guard.old.book ≡ map.now }
+    ensures { guard.new.book ≡ map.now }
+{
+    add(map, alloc, guard, key, 1)
+}
+
+// A map of one segment has no memory for a leaf.
+fn refuse_a_leaf(rt: &impl Abort, alloc: Global, map: &Congee, guard: &mut Guard)
+    requires { guard.old.book ≡ map.now }
+{
+    let steps = [
+        map.limit() == 8_192,
+        map.usage() == (8_192, 8_192),
+        insert(map, alloc, guard, 7, 70) == Err(Refusal::OutOfMemory),
+        get(map, guard, 7) == Ok(None),
+    ];
+    all_hold(rt, &steps);
+}
+
 // Limits below which there is no map, and one with which there is one.
 #[test]
 fn a_map_has_a_segment_at_least(rt: HostRuntime) -> Result<(), Fail> {
     assert!(rt; Congee::with_limit(rt.alloc(), 0).is_err());
     assert!(rt; Congee::with_limit(rt.alloc(), 8_191).is_err());
     let map = Congee::with_limit(rt.alloc(), 8_192)?;
-    assert!(rt; map.limit() == 8_192 && map.usage() == (8_192, 8_192));
-    let mut guard = map.pin();
-    assert!(rt; map.insert(rt.alloc(), &mut guard, 7, 70) == Err(Refusal::OutOfMemory));
-    assert!(rt; map.get(&mut guard, 7) == Ok(None));
+    refuse_a_leaf(&rt, rt.alloc(), &map, &mut map.pin());
     Ok(())
+}
+
+fn make_a_leaf(rt: &impl Abort, alloc: Global, map: &Congee, guard: &mut Guard)
+    requires { guard.old.book ≡ map.now }
+{
+    let steps = [
+        map.limit() == u64::MAX,
+        map.usage() == (8_192, u64::MAX),
+        insert(map, alloc, guard, 7, 70) == Ok(None),
+        map.usage().0 == 24_576,
+    ];
+    all_hold(rt, &steps);
 }
 
 #[test]
 fn a_map_without_a_limit_has_the_greatest(rt: HostRuntime) -> Result<(), Fail> {
     let map = Congee::new(rt.alloc())?;
-    let mut guard = map.pin();
-    assert!(rt; map.limit() == u64::MAX && map.usage() == (8_192, u64::MAX));
-    assert!(rt; map.insert(rt.alloc(), &mut guard, 7, 70) == Ok(None));
-    assert!(rt; map.usage().0 == 24_576);
+    make_a_leaf(&rt, rt.alloc(), &map, &mut map.pin());
     Ok(())
 }
 
 // What a map that is full still does.
-fn is_sound_when_full(map: &Congee, alloc: Global, guard: &mut Guard, count: u64) -> bool
+fn work_when_full(rt: &impl Abort, alloc: Global, map: &Congee, guard: &mut Guard, count: u64)
     requires { guard.old.book ≡ map.now }
     ensures { guard.new.book ≡ map.now }
 {
-    let refused = map.insert(alloc, guard, key_of(count), 1) == Err(Refusal::OutOfMemory);
-    let more = add(map, alloc, guard, key_of(count), 1) == Err(Refusal::OutOfMemory);
-    let absent = map.get(guard, key_of(count)) == Ok(None);
-    // (a present key gets another value, by a new guard too)
-    let put = map.insert(alloc, guard, key_of(0), 0) == Ok(Some(0));
     let mut other = map.pin();
-    let by_another = map.insert(alloc, &mut other, key_of(1), 1) == Ok(Some(1));
-    refused && more && absent && put && by_another && found(map, guard, count) == count
+    let steps = [
+        insert(map, alloc, guard, key_of(count), 1) == Err(Refusal::OutOfMemory),
+        add_one(map, alloc, guard, key_of(count)) == Err(Refusal::OutOfMemory),
+        get(map, guard, key_of(count)) == Ok(None),
+        // (a present key gets another value, by a new guard too)
+        insert(map, alloc, guard, key_of(0), 0) == Ok(Some(0)),
+        insert(map, alloc, &mut other, key_of(1), 1) == Ok(Some(1)),
+        found(map, guard, count) == count,
+    ];
+    all_hold(rt, &steps);
+}
+
+fn keep_when_full(rt: &impl Abort, alloc: Global, map: &Congee, guard: &mut Guard)
+    requires { guard.old.book ≡ map.now }
+{
+    let count = stored(map, alloc, guard);
+    assert!(rt; count > 1_000 && count < 13_000);
+    assert!(rt; map.usage().0 == 122_880);
+    work_when_full(rt, alloc, map, guard, count);
+    let steps = [
+        replaced(map, alloc, guard, count) == count,
+        found(map, guard, count) == count,
+        map.usage().0 == 122_880,
+    ];
+    all_hold(rt, &steps);
 }
 
 #[test]
 fn a_full_map_keeps_its_pairs(rt: HostRuntime) -> Result<(), Fail> {
     let map = Congee::with_limit(rt.alloc(), 130_000)?;
-    let mut guard = map.pin();
-    let count = stored(&map, rt.alloc(), &mut guard);
-    assert!(rt; count > 1_000 && count < 13_000);
-    assert!(rt; map.usage().0 == 122_880);
-    assert!(rt; is_sound_when_full(&map, rt.alloc(), &mut guard, count));
-    assert!(rt; replaced(&map, rt.alloc(), &mut guard, count) == count);
-    assert!(rt; found(&map, &mut guard, count) == count);
-    assert!(rt; map.usage().0 == 122_880);
+    keep_when_full(&rt, rt.alloc(), &map, &mut map.pin());
     Ok(())
 }
 
@@ -125,27 +165,33 @@ fn is_locked(map: &Congee, key: u64) -> bool {
     lock_node(words, name, end.position.height, key, &mut seat).is_some()
 }
 
-// Whether the calls at a locked leaf are busy, and not out of memory. The key of this number is there, others are elsewhere.
-fn is_busy_when_full(map: &Congee, alloc: Global, i: u64) -> bool {
-    let mut guard = map.pin();
-    let inserted = map.insert(alloc, &mut guard, key_of(i), 1) == Err(Refusal::Busy);
-    let absent = map.insert(alloc, &mut guard, key_of(i) ^ 1, 1) == Err(Refusal::Busy);
-    let added = add(map, alloc, &mut guard, key_of(i), 1) == Err(Refusal::Busy);
-    let removed = remove(map, &mut guard, key_of(i)) == Err(Busy);
-    let found = map.get(&mut guard, key_of(i)) == Err(Busy);
-    let beside = map.insert(alloc, &mut guard, key_of(1), 1) == Ok(Some(1));
-    inserted && absent && added && removed && found && beside
+// The calls at a locked leaf are busy, and not out of memory. The key of this number is there, others are elsewhere.
+fn wait_when_full(rt: &impl Abort, alloc: Global, map: &Congee, guard: &mut Guard, i: u64)
+    requires { guard.old.book ≡ map.now }
+{
+    let steps = [
+        insert(map, alloc, guard, key_of(i), 1) == Err(Refusal::Busy),
+        insert(map, alloc, guard, key_of(i) ^ 1, 1) == Err(Refusal::Busy),
+        add_one(map, alloc, guard, key_of(i)) == Err(Refusal::Busy),
+        remove_by(map, guard, key_of(i)) == Err(Busy),
+        get(map, guard, key_of(i)) == Err(Busy),
+        insert(map, alloc, guard, key_of(1), 1) == Ok(Some(1)),
+    ];
+    all_hold(rt, &steps);
+}
+
+fn lock_when_full(rt: &impl Abort, alloc: Global, map: &Congee, guard: &mut Guard)
+    requires { guard.old.book ≡ map.now }
+{
+    let count = stored(map, alloc, guard);
+    assert!(rt; count > 100 && is_locked(map, key_of(0)));
+    wait_when_full(rt, alloc, map, &mut map.pin(), 0);
+    assert!(rt; put(map, alloc, key_of(count), 1) == Err(Refusal::OutOfMemory));
 }
 
 #[test]
 fn a_full_map_is_busy_at_a_locked_leaf(rt: HostRuntime) -> Result<(), Fail> {
     let map = Congee::with_limit(rt.alloc(), 30_000)?;
-    let mut guard = map.pin();
-    let count = stored(&map, rt.alloc(), &mut guard);
-    assert!(rt; count > 100 && is_locked(&map, key_of(0)));
-    assert!(rt; is_busy_when_full(&map, rt.alloc(), 0));
-    let mut other = map.pin();
-    let lacks = map.insert(rt.alloc(), &mut other, key_of(count), 1) == Err(Refusal::OutOfMemory);
-    assert!(rt; lacks);
+    lock_when_full(&rt, rt.alloc(), &map, &mut map.pin());
     Ok(())
 }

@@ -1,5 +1,6 @@
 //! Tests of the map with guards that were given back.
 
+mod calls;
 mod cleanup_due;
 mod emptied;
 mod rooms;

@@ -2,36 +2,12 @@
 
 ghost use Rattle.std.specs.Prelude.{◌≡◌};
 
-use crate::detached::{is_gone, is_new};
+use crate::calls::{all_hold, filled, filled_by, form_at, found, is_gone};
 use live_growth::map::{Congee, Guard};
-use live_reads::descend::descend;
 use std::alloc::Global;
+use std::process::Abort;
 use std::test::Fail;
 use std::thread::{Threads, join};
-
-// The form of the node at which a key's path ends, by its place among the four. 4 where a writer came in between.
-fn form_at(map: &Congee, key: u64) -> u64 {
-    let mut guard = map.pin();
-    match descend(&map.nodes, key, &mut guard.seat) {
-        Some(end) => end.position.name % 256,
-        None => 4,
-    }
-}
-
-// Inserts as many keys. Returns how many were new.
-fn filled(map: &Congee, alloc: Global, guard: &mut Guard, first: u64, count: u64) -> u64
-    requires { guard.old.book ≡ map.now }
-    ensures { guard.new.book ≡ map.now }
-{
-    let mut new = 0u64;
-    for i in 0..count {
-        let key = first.wrapping_add(i);
-        if is_new(map, alloc, guard, key) {
-            new = new.wrapping_add(1);
-        }
-    }
-    new
-}
 
 // Removes the keys from one on to another. Returns how many were there.
 fn thinned(map: &Congee, guard: &mut Guard, first: u64, low: u64, high: u64) -> u64
@@ -46,19 +22,6 @@ fn thinned(map: &Congee, guard: &mut Guard, first: u64, low: u64, high: u64) -> 
         }
     }
     gone
-}
-
-// How many of the keys have their value.
-fn found(map: &Congee, first: u64, count: u64) -> u64 {
-    let mut guard = map.pin();
-    let mut right = 0u64;
-    for i in 0..count {
-        let key = first.wrapping_add(i);
-        if map.get(&mut guard, key) == Ok(Some(key ^ 1)) {
-            right = right.wrapping_add(1);
-        }
-    }
-    right
 }
 
 // How many keys are left in a leaf, and the place of the form that it has then.
@@ -82,7 +45,7 @@ fn shrunk(map: &Congee, guard: &mut Guard, first: u64) -> usize
     let mut there = 200u64;
     for (left, place) in LEFT {
         let gone = thinned(map, guard, first, left, there);
-        let all = gone == there.wrapping_sub(left) && found(map, first, 200) == left;
+        let all = gone == there.wrapping_sub(left) && found(map, first, 1, 200) == left;
         if all && form_at(map, first) == place {
             right = right.wrapping_add(1);
         }
@@ -91,30 +54,56 @@ fn shrunk(map: &Congee, guard: &mut Guard, first: u64) -> usize
     right
 }
 
+// It grows again, by the nodes that it left.
+fn shrink_and_grow(rt: &impl Abort, alloc: Global, map: &Congee, guard: &mut Guard)
+    requires { guard.old.book ≡ map.now }
+{
+    let new = filled_by(map, alloc, guard, 0x500, 1, 200);
+    let right = shrunk(map, guard, 0x500);
+    let words = guard.room.left;
+    let steps = [
+        new == 200,
+        right == LEFT.len(),
+        filled_by(map, alloc, guard, 0x501, 1, 199) == 199,
+        found(map, 0x500, 1, 200) == 200,
+        form_at(map, 0x500) == 3,
+        guard.room.left == words,
+    ];
+    all_hold(rt, &steps);
+}
+
 #[test]
 fn a_leaf_of_few_keys_goes_into_a_smaller_form(rt: HostRuntime) -> Result<(), Fail> {
     let map = Congee::new(rt.alloc())?;
-    let mut guard = map.pin();
-    assert!(rt; filled(&map, rt.alloc(), &mut guard, 0x500, 200) == 200);
-    assert!(rt; shrunk(&map, &mut guard, 0x500) == LEFT.len());
-    // It grows again, by the nodes that it left.
-    let words = guard.room.left;
-    assert!(rt; filled(&map, rt.alloc(), &mut guard, 0x501, 199) == 199);
-    assert!(rt; found(&map, 0x500, 200) == 200 && form_at(&map, 0x500) == 3);
-    assert!(rt; guard.room.left == words);
+    shrink_and_grow(&rt, rt.alloc(), &map, &mut map.pin());
     Ok(())
+}
+
+fn thin_by_another(
+    rt: &impl Abort,
+    alloc: Global,
+    map: &Congee,
+    guard: &mut Guard,
+    other: &mut Guard,
+)
+    requires first { guard.old.book ≡ map.now }
+    requires second { other.old.book ≡ map.now }
+{
+    let steps = [
+        filled_by(map, alloc, guard, 0, 1, 200) == 200,
+        thinned(map, other, 0, 1, 200) == 199,
+        found(map, 0, 1, 200) == 1,
+        form_at(map, 0) == 3,
+        other.room.left == 0,
+    ];
+    all_hold(rt, &steps);
 }
 
 // A caller that has no node to use again leaves a leaf in its form, and takes no memory.
 #[test]
 fn a_leaf_stays_where_no_node_is_left_over(rt: HostRuntime) -> Result<(), Fail> {
     let map = Congee::new(rt.alloc())?;
-    let mut guard = map.pin();
-    assert!(rt; filled(&map, rt.alloc(), &mut guard, 0, 200) == 200);
-    let mut other = map.pin();
-    assert!(rt; thinned(&map, &mut other, 0, 1, 200) == 199);
-    assert!(rt; found(&map, 0, 200) == 1 && form_at(&map, 0) == 3);
-    assert!(rt; other.room.left == 0);
+    thin_by_another(&rt, rt.alloc(), &map, &mut map.pin(), &mut map.pin());
     Ok(())
 }
 
@@ -123,7 +112,7 @@ fn fills(map: &Congee, alloc: Global, first: u64, times: u32) -> u32 {
     let mut guard = map.pin();
     let mut right = 0u32;
     for _ in 0..times {
-        let new = filled(map, alloc, &mut guard, first, 100);
+        let new = filled_by(map, alloc, &mut guard, first, 1, 100);
         let gone = thinned(map, &mut guard, first, 0, 100);
         if new == 100 && gone == 100 {
             right = right.wrapping_add(1);
@@ -153,9 +142,8 @@ fn by_four<R: Threads + Sync>(rt: &R, alloc: Global, map: &Congee) -> ((u32, u32
 #[test]
 fn threads_that_fill_and_thin_a_leaf_lose_nothing(rt: HostRuntime) -> Result<(), Fail> {
     let map = Congee::new(rt.alloc())?;
-    let mut guard = map.pin();
-    assert!(rt; filled(&map, rt.alloc(), &mut guard, 0, 2) == 2);
+    assert!(rt; filled(&map, rt.alloc(), 0, 1, 2) == 2);
     assert!(rt; by_four(&rt, rt.alloc(), &map) == ((300, 300), (300, 300)));
-    assert!(rt; found(&map, 0, 300) == 2);
+    assert!(rt; found(&map, 0, 1, 300) == 2);
     Ok(())
 }

@@ -1,23 +1,11 @@
 //! One thread, and several threads at one map.
 
-ghost use Rattle.std.specs.Prelude.{◌≡◌};
-
-use live_growth::map::{Busy, Congee, Guard, Refusal};
+use crate::calls::{all_hold, filled, is_new, looked, made, put};
+use live_growth::map::Congee;
 use std::alloc::Global;
+use std::process::Abort;
 use std::test::Fail;
 use std::thread::{Threads, join};
-
-// The value of a key, by a caller of its own.
-fn looked(map: &Congee, key: u64) -> Result<Option<u64>, Busy> {
-    let mut guard = map.pin();
-    map.get(&mut guard, key)
-}
-
-// What an insertion returns, by a caller of its own.
-fn put(map: &Congee, alloc: Global, key: u64, value: u64) -> Result<Option<u64>, Refusal> {
-    let mut guard = map.pin();
-    map.insert(alloc, &mut guard, key, value)
-}
 
 // Keys that share some of their bytes, or none.
 const KEYS: [u64; 6] = [
@@ -29,55 +17,26 @@ const KEYS: [u64; 6] = [
     u64::MAX,
 ];
 
+fn insert_twice(rt: &impl Abort, alloc: Global, map: &Congee) {
+    for key in KEYS {
+        let steps = [
+            looked(map, key) == Ok(None),
+            put(map, alloc, key, key ^ 7) == Ok(None),
+            put(map, alloc, key, key ^ 9) == Ok(Some(key ^ 7)),
+        ];
+        all_hold(rt, &steps);
+    }
+    for key in KEYS {
+        assert!(rt; looked(map, key) == Ok(Some(key ^ 9)));
+    }
+    assert!(rt; looked(map, 257) == Ok(None));
+}
+
 #[test]
 fn a_key_has_the_value_that_was_inserted_last(rt: HostRuntime) -> Result<(), Fail> {
     let map = Congee::new(rt.alloc())?;
-    for key in KEYS {
-        assert!(rt; looked(&map, key) == Ok(None));
-        assert!(rt; put(&map, rt.alloc(), key, key ^ 7) == Ok(None));
-        assert!(rt; put(&map, rt.alloc(), key, key ^ 9) == Ok(Some(key ^ 7)));
-    }
-    for key in KEYS {
-        assert!(rt; looked(&map, key) == Ok(Some(key ^ 9)));
-    }
-    assert!(rt; looked(&map, 257) == Ok(None));
+    insert_twice(&rt, rt.alloc(), &map);
     Ok(())
-}
-
-// A map, also where memory is refused once.
-fn made(alloc: Global) -> Option<Congee> {
-    match Congee::new(alloc) {
-        Ok(map) => Some(map),
-        Err(_) => Congee::new(alloc).ok(),
-    }
-}
-
-// Inserts a key with a value of its own, again where memory is refused or another writer is in the way. Returns whether it
-// was new.
-fn is_new(map: &Congee, alloc: Global, guard: &mut Guard, key: u64) -> bool
-    requires { guard.old.book ≡ map.now }
-    ensures { guard.new.book ≡ map.now }
-{
-    for _ in 0..1_000_000u32 {
-        if let Ok(before) = map.insert(alloc, guard, key, key ^ 1) {
-            return before.is_none();
-        }
-    }
-    false
-}
-
-// Inserts as many keys. Returns how many were new.
-fn filled(map: &Congee, alloc: Global, first: u64, step: u64, count: u32) -> u32 {
-    let mut guard = map.pin();
-    let mut key = first;
-    let mut new = 0u32;
-    for _ in 0..count {
-        if is_new(map, alloc, &mut guard, key) {
-            new = new.wrapping_add(1);
-        }
-        key = key.wrapping_add(step);
-    }
-    new
 }
 
 // Reads these keys over and over, until each is there. Returns how many reads found another key's value.
@@ -102,12 +61,12 @@ fn wrong_reads(map: &Congee, first: u64, step: u64, count: u32) -> u32 {
 }
 
 // One thread inserts keys, and another reads them as they come.
-fn by_two<R: Threads + Sync>(rt: &R, alloc: Global, step: u64, count: u32) -> Option<(u32, u32)> {
+fn by_two<R: Threads + Sync>(rt: &R, alloc: Global, step: u64, count: u32) -> Option<(u64, u32)> {
     let map = made(alloc)?;
     let shared = &map;
     Some(join(
         rt,
-        || filled(shared, alloc, 3, step, count),
+        || filled(shared, alloc, 3, step, u64::from(count)),
         || wrong_reads(shared, 3, step, count),
     ))
 }
@@ -166,23 +125,31 @@ const PARTING: [u64; 10] = [
     0x0201010101010102,
 ];
 
+// Inserts the keys in turn. Each is absent before.
+fn part(rt: &impl Abort, alloc: Global, map: &Congee) {
+    for key in PARTING {
+        assert!(rt; looked(map, key) == Ok(None));
+        assert!(rt; put(map, alloc, key, key ^ 3) == Ok(None));
+    }
+}
+
+fn find_parted(rt: &impl Abort, map: &Congee) {
+    for key in PARTING {
+        let steps = [
+            looked(map, key) == Ok(Some(key ^ 3)),
+            looked(map, key ^ 0x0400) == Ok(None),
+            looked(map, key ^ (1 << 60)) == Ok(None),
+        ];
+        all_hold(rt, &steps);
+    }
+}
+
 // A node comes above another where the path of a new key leaves it, and both paths are found.
 #[test]
 fn a_key_parts_from_others_at_each_byte(rt: HostRuntime) -> Result<(), Fail> {
     let map = Congee::new(rt.alloc())?;
-    let mut absent = 0u32;
-    for key in PARTING {
-        if looked(&map, key) == Ok(None) {
-            absent = absent.wrapping_add(1);
-        }
-        assert!(rt; put(&map, rt.alloc(), key, key ^ 3) == Ok(None));
-    }
-    assert!(rt; absent == 10);
-    for key in PARTING {
-        assert!(rt; looked(&map, key) == Ok(Some(key ^ 3)));
-        assert!(rt; looked(&map, key ^ 0x0400) == Ok(None));
-        assert!(rt; looked(&map, key ^ (1 << 60)) == Ok(None));
-    }
+    part(&rt, rt.alloc(), &map);
+    find_parted(&rt, &map);
     Ok(())
 }
 
@@ -198,7 +165,7 @@ fn parted(map: &Congee, alloc: Global) -> u32 {
     let mut new = 0u32;
     for number in 0..200u32 {
         let key = parting(number);
-        if is_new(map, alloc, &mut guard, key) {
+        if is_new(map, alloc, &mut guard, key, key ^ 1) {
             new = new.wrapping_add(1);
         }
     }
@@ -244,7 +211,7 @@ fn paths_part_beside_readers(rt: HostRuntime) {
 }
 
 // Two threads insert keys that lie between one another.
-fn by_writers<R: Threads + Sync>(rt: &R, alloc: Global) -> Option<(u32, u32, u32)> {
+fn by_writers<R: Threads + Sync>(rt: &R, alloc: Global) -> Option<(u64, u64, u32)> {
     let map = made(alloc)?;
     let shared = &map;
     let (even, odd) = join(

@@ -1,16 +1,12 @@
 //! Removals, and exchanges that remove, by one thread and by two.
 
-use live_growth::map::{Busy, Congee, Refusal};
+use crate::calls::{all_hold, filled, looked, put, removed};
+use live_growth::map::{Busy, Congee};
 use live_updates::calls::{compare_exchange, remove};
 use std::alloc::Global;
+use std::process::Abort;
 use std::test::Fail;
 use std::thread::{Threads, join};
-
-// What a removal returns, by a caller of its own.
-fn removed(map: &Congee, key: u64) -> Result<Option<u64>, Busy> {
-    let mut guard = map.pin();
-    remove(map, &mut guard, key)
-}
 
 // What an exchange returns, by a caller of its own.
 fn exchanged(
@@ -21,18 +17,6 @@ fn exchanged(
 ) -> Result<Result<Option<u64>, Option<u64>>, Busy> {
     let mut guard = map.pin();
     compare_exchange(map, &mut guard, key, old, new)
-}
-
-// What an insertion returns, by a caller of its own.
-fn put(map: &Congee, alloc: Global, key: u64, value: u64) -> Result<Option<u64>, Refusal> {
-    let mut guard = map.pin();
-    map.insert(alloc, &mut guard, key, value)
-}
-
-// The value of a key, by a caller of its own.
-fn looked(map: &Congee, key: u64) -> Result<Option<u64>, Busy> {
-    let mut guard = map.pin();
-    map.get(&mut guard, key)
 }
 
 // Keys that share some of their bytes, or none. Two leaves have one key alone.
@@ -47,32 +31,46 @@ const KEYS: [u64; 7] = [
 ];
 
 // Each key is there until it is removed, and can be inserted again.
+fn insert_and_remove(rt: &impl Abort, alloc: Global, map: &Congee) {
+    for key in KEYS {
+        assert!(rt; removed(map, key) == Ok(None));
+        assert!(rt; put(map, alloc, key, key ^ 7) == Ok(None));
+    }
+    for key in KEYS {
+        let steps = [
+            removed(map, key) == Ok(Some(key ^ 7)),
+            removed(map, key) == Ok(None),
+            looked(map, key) == Ok(None),
+        ];
+        all_hold(rt, &steps);
+    }
+}
+
 #[test]
 fn a_removed_key_is_absent_and_the_others_stay(rt: HostRuntime) -> Result<(), Fail> {
     let map = Congee::new(rt.alloc())?;
-    for key in KEYS {
-        assert!(rt; removed(&map, key) == Ok(None));
-        assert!(rt; put(&map, rt.alloc(), key, key ^ 7) == Ok(None));
-    }
-    for key in KEYS {
-        assert!(rt; removed(&map, key) == Ok(Some(key ^ 7)));
-        assert!(rt; removed(&map, key) == Ok(None));
-        assert!(rt; looked(&map, key) == Ok(None));
-    }
+    insert_and_remove(&rt, rt.alloc(), &map);
     Ok(())
+}
+
+fn insert_again(rt: &impl Abort, alloc: Global, map: &Congee) {
+    for key in KEYS {
+        let steps = [
+            put(map, alloc, key, key ^ 7) == Ok(None),
+            removed(map, key) == Ok(Some(key ^ 7)),
+            put(map, alloc, key, key ^ 9) == Ok(None),
+        ];
+        all_hold(rt, &steps);
+    }
+    for key in KEYS {
+        assert!(rt; looked(map, key) == Ok(Some(key ^ 9)));
+    }
 }
 
 #[test]
 fn a_removed_key_is_inserted_again(rt: HostRuntime) -> Result<(), Fail> {
     let map = Congee::new(rt.alloc())?;
-    for key in KEYS {
-        assert!(rt; put(&map, rt.alloc(), key, key ^ 7) == Ok(None));
-        assert!(rt; removed(&map, key) == Ok(Some(key ^ 7)));
-        assert!(rt; put(&map, rt.alloc(), key, key ^ 9) == Ok(None));
-    }
-    for key in KEYS {
-        assert!(rt; looked(&map, key) == Ok(Some(key ^ 9)));
-    }
+    insert_again(&rt, rt.alloc(), &map);
     Ok(())
 }
 
@@ -86,35 +84,31 @@ const STEPS: [(u64, Option<u64>, Result<Option<u64>, Option<u64>>); 6] = [
     (8, Some(8), Err(None)),
 ];
 
+fn exchange_for_nothing(rt: &impl Abort, alloc: Global, map: &Congee) {
+    let before = [
+        exchanged(map, 0x0102, 5, None) == Ok(Err(None)),
+        put(map, alloc, 0x0102, 5) == Ok(None),
+        put(map, alloc, 0x0103, 6) == Ok(None),
+    ];
+    all_hold(rt, &before);
+    for (old, new, wanted) in STEPS {
+        assert!(rt; exchanged(map, 0x0102, old, new) == Ok(wanted));
+    }
+    let behind = [
+        looked(map, 0x0102) == Ok(None),
+        looked(map, 0x0103) == Ok(Some(6)),
+    ];
+    all_hold(rt, &behind);
+}
+
 #[test]
 fn an_exchange_for_nothing_removes(rt: HostRuntime) -> Result<(), Fail> {
     let map = Congee::new(rt.alloc())?;
-    assert!(rt; exchanged(&map, 0x0102, 5, None) == Ok(Err(None)));
-    assert!(rt; put(&map, rt.alloc(), 0x0102, 5) == Ok(None));
-    assert!(rt; put(&map, rt.alloc(), 0x0103, 6) == Ok(None));
-    for (old, new, wanted) in STEPS {
-        assert!(rt; exchanged(&map, 0x0102, old, new) == Ok(wanted));
-    }
-    assert!(rt; looked(&map, 0x0102) == Ok(None));
-    assert!(rt; looked(&map, 0x0103) == Ok(Some(6)));
+    exchange_for_nothing(&rt, rt.alloc(), &map);
     Ok(())
 }
 
-// Inserts as many keys, each with a value of its own. Returns how many were new.
-fn filled(map: &Congee, alloc: Global, step: u64, count: u32) -> u32 {
-    let mut guard = map.pin();
-    let mut key = 3u64;
-    let mut new = 0u32;
-    for _ in 0..count {
-        if map.insert(alloc, &mut guard, key, key ^ 1) == Ok(None) {
-            new = new.wrapping_add(1);
-        }
-        key = key.wrapping_add(step);
-    }
-    new
-}
-
-// Removes the same keys. Returns how many had their value.
+// Removes as many keys, from 3 on. Returns how many had their value.
 fn emptied(map: &Congee, step: u64, count: u32) -> u32 {
     let mut guard = map.pin();
     let mut key = 3u64;
@@ -131,15 +125,22 @@ fn emptied(map: &Congee, step: u64, count: u32) -> u32 {
 // How far keys lie apart: in one leaf of each size, and in many leaves.
 const APART: [u64; 3] = [1, 0x100, 0x0001000200030005];
 
+fn empty_and_fill(rt: &impl Abort, alloc: Global, map: &Congee, step: u64) {
+    let steps = [
+        filled(map, alloc, 3, step, 256) == 256,
+        emptied(map, step, 256) == 256,
+        emptied(map, step, 256) == 0,
+        filled(map, alloc, 3, step, 256) == 256,
+        emptied(map, step, 256) == 256,
+    ];
+    all_hold(rt, &steps);
+}
+
 #[test]
 fn a_map_is_emptied_and_filled_again(rt: HostRuntime) -> Result<(), Fail> {
     let map = Congee::new(rt.alloc())?;
     for step in APART {
-        assert!(rt; filled(&map, rt.alloc(), step, 256) == 256);
-        assert!(rt; emptied(&map, step, 256) == 256);
-        assert!(rt; emptied(&map, step, 256) == 0);
-        assert!(rt; filled(&map, rt.alloc(), step, 256) == 256);
-        assert!(rt; emptied(&map, step, 256) == 256);
+        empty_and_fill(&rt, rt.alloc(), &map, step);
     }
     Ok(())
 }

@@ -2,6 +2,8 @@
 
 ghost use Rattle.std.specs.Prelude.{◌≡◌};
 
+use crate::calls::{all_hold, end_of, get};
+use crate::pool::calls::remove;
 use live_growth::held::{lock_node, unlock_same};
 use live_growth::insert::extend;
 use live_growth::map::Guard;
@@ -9,17 +11,9 @@ use live_pool::pool::Pool;
 use live_reads::descend::descend;
 use live_reads::path::words_at;
 use std::alloc::Global;
+use std::process::Abort;
 use std::test::Fail;
 use std::thread::{Threads, join};
-
-// The height of the node at which a key's path ends: 1 at a leaf, 8 at the root. 0 where a writer came in between.
-fn end_of(map: &Pool, key: u64) -> usize {
-    let mut guard = map.pin();
-    match descend(&map.map.nodes, key, &mut guard.seat) {
-        Some(end) => end.position.height,
-        None => 0,
-    }
-}
 
 // Whether keys are stored, each with a value of its own.
 fn stored(map: &Pool, alloc: Global, guard: &mut Guard, keys: &[u64]) -> bool
@@ -83,59 +77,97 @@ const OTHERS: [u64; 3] = [0x0202030405060708, 0x0202030405060808, 0x020203040506
 
 const LAST: [u64; 2] = [0x0302030405060708, 0x0302030405060808];
 
+// Removes the last key of a leaf, so that the leaf is taken out, and defers one without keys.
+fn leave_a_leaf(rt: &impl Abort, alloc: Global, map: &Pool, guard: &mut Guard)
+    requires { guard.old.book ≡ map.now }
+    ensures { guard.new.book ≡ map.now }
+{
+    let steps = [
+        stored(map, alloc, guard, &KEYS[..2]),
+        stored(map, alloc, guard, &LAST[..1]),
+        remove(map, guard, KEYS[0]) == Ok(Some(KEYS[0] ^ 1)),
+        end_of(&map.map, KEYS[0]) == 2,
+        leaf_made(map, guard, KEYS[0]),
+        stored_beside(map, alloc, guard, KEYS[0], LAST[0] ^ 1),
+        end_of(&map.map, KEYS[0]) == 1,
+    ];
+    all_hold(rt, &steps);
+}
+
+fn take_out_later(rt: &impl Abort, alloc: Global, map: &Pool, other: &mut Guard)
+    requires { other.old.book ≡ map.now }
+{
+    let steps = [
+        end_of(&map.map, KEYS[0]) == 1,
+        stored(map, alloc, other, &KEYS[2..]),
+        end_of(&map.map, KEYS[0]) == 2,
+        end_of(&map.map, KEYS[1]) == 1,
+    ];
+    all_hold(rt, &steps);
+}
+
 // Once its guard has ended, the next call that makes a node takes the leaf out.
 #[test]
 fn a_leaf_without_keys_is_taken_out_later(rt: HostRuntime) -> Result<(), Fail> {
     let map = Pool::new(rt.alloc())?;
     let mut guard = map.pin();
     let mut other = map.pin();
-    assert!(rt; stored(&map, rt.alloc(), &mut guard, &KEYS[..2]));
-    assert!(rt; stored(&map, rt.alloc(), &mut guard, &LAST[..1]));
-    assert!(rt; map.remove(&mut guard, KEYS[0]) == Ok(Some(KEYS[0] ^ 1)));
-    assert!(rt; end_of(&map, KEYS[0]) == 2);
-    assert!(rt; leaf_made(&map, &mut guard, KEYS[0]));
-    assert!(rt; stored_beside(&map, rt.alloc(), &mut guard, KEYS[0], LAST[0] ^ 1));
-    assert!(rt; end_of(&map, KEYS[0]) == 1);
+    leave_a_leaf(&rt, rt.alloc(), &map, &mut guard);
     map.unpin(guard);
-    assert!(rt; end_of(&map, KEYS[0]) == 1);
-    assert!(rt; stored(&map, rt.alloc(), &mut other, &KEYS[2..]));
-    assert!(rt; end_of(&map, KEYS[0]) == 2);
-    assert!(rt; end_of(&map, KEYS[1]) == 1);
+    take_out_later(&rt, rt.alloc(), &map, &mut other);
     Ok(())
+}
+
+// A leaf is deferred, and gets a key. Another one is taken out.
+fn store_in_it(rt: &impl Abort, alloc: Global, map: &Pool, guard: &mut Guard)
+    requires { guard.old.book ≡ map.now }
+{
+    let steps = [
+        stored(map, alloc, guard, &KEYS[1..]),
+        stored(map, alloc, guard, &LAST[..1]),
+        leaf_made(map, guard, KEYS[0]),
+        stored_beside(map, alloc, guard, KEYS[0], LAST[0] ^ 1),
+        stored(map, alloc, guard, &KEYS[..1]),
+        remove(map, guard, KEYS[2]) == Ok(Some(KEYS[2] ^ 1)),
+        end_of(&map.map, KEYS[0]) == 1,
+        end_of(&map.map, KEYS[2]) == 2,
+        get(&map.map, guard, KEYS[0]) == Ok(Some(KEYS[0] ^ 1)),
+    ];
+    all_hold(rt, &steps);
 }
 
 // It isn't, where there is a key by then.
 #[test]
 fn a_leaf_with_a_new_key_stays(rt: HostRuntime) -> Result<(), Fail> {
     let map = Pool::new(rt.alloc())?;
-    let mut guard = map.pin();
-    assert!(rt; stored(&map, rt.alloc(), &mut guard, &KEYS[1..]));
-    assert!(rt; stored(&map, rt.alloc(), &mut guard, &LAST[..1]));
-    assert!(rt; leaf_made(&map, &mut guard, KEYS[0]));
-    assert!(rt; stored_beside(&map, rt.alloc(), &mut guard, KEYS[0], LAST[0] ^ 1));
-    assert!(rt; stored(&map, rt.alloc(), &mut guard, &KEYS[..1]));
-    assert!(rt; map.remove(&mut guard, KEYS[2]) == Ok(Some(KEYS[2] ^ 1)));
-    assert!(rt; end_of(&map, KEYS[0]) == 1);
-    assert!(rt; end_of(&map, KEYS[2]) == 2);
-    assert!(rt; map.map.get(&mut guard, KEYS[0]) == Ok(Some(KEYS[0] ^ 1)));
+    store_in_it(&rt, rt.alloc(), &map, &mut map.pin());
     Ok(())
+}
+
+// Two leaves are deferred, the second one while a writer is busy above it.
+fn leave_two(rt: &impl Abort, alloc: Global, map: &Pool, guard: &mut Guard)
+    requires { guard.old.book ≡ map.now }
+{
+    let steps = [
+        stored(map, alloc, guard, &KEYS[1..]),
+        stored(map, alloc, guard, &OTHERS[1..]),
+        stored(map, alloc, guard, &LAST[..1]),
+        leaf_made(map, guard, KEYS[0]),
+        leaf_made(map, guard, OTHERS[0]),
+        stored_beside(map, alloc, guard, KEYS[0], LAST[0] ^ 1),
+        end_of(&map.map, KEYS[0]) == 1,
+        stored_beside(map, alloc, guard, OTHERS[0], LAST[1]),
+        end_of(&map.map, KEYS[0]) == 2,
+        end_of(&map.map, OTHERS[0]) == 1,
+    ];
+    all_hold(rt, &steps);
 }
 
 // While a writer is busy at one leaf, another one is taken out whose key was deferred before.
 #[test]
 fn a_busy_writer_keeps_no_other_leaf(rt: HostRuntime) -> Result<(), Fail> {
     let map = Pool::new(rt.alloc())?;
-    let mut guard = map.pin();
-    assert!(rt; stored(&map, rt.alloc(), &mut guard, &KEYS[1..]));
-    assert!(rt; stored(&map, rt.alloc(), &mut guard, &OTHERS[1..]));
-    assert!(rt; stored(&map, rt.alloc(), &mut guard, &LAST[..1]));
-    assert!(rt; leaf_made(&map, &mut guard, KEYS[0]));
-    assert!(rt; leaf_made(&map, &mut guard, OTHERS[0]));
-    assert!(rt; stored_beside(&map, rt.alloc(), &mut guard, KEYS[0], LAST[0] ^ 1));
-    assert!(rt; end_of(&map, KEYS[0]) == 1);
-    assert!(rt; stored_beside(&map, rt.alloc(), &mut guard, OTHERS[0], LAST[1]));
-    assert!(rt; end_of(&map, KEYS[0]) == 2);
-    assert!(rt; end_of(&map, OTHERS[0]) == 1);
+    leave_two(&rt, rt.alloc(), &map, &mut map.pin());
     Ok(())
 }
 
@@ -169,7 +201,7 @@ fn passed(map: &Pool, alloc: Global, first: u64) -> u64 {
 fn left(map: &Pool) -> u64 {
     let mut ends = 0u64;
     for key in 0..2 * COUNT {
-        if end_of(map, key) != 8 {
+        if end_of(&map.map, key) != 8 {
             ends = ends.wrapping_add(1);
         }
     }

@@ -2,10 +2,12 @@
 
 ghost use Rattle.std.specs.Prelude.{◌≡◌};
 
+use crate::calls::all_hold;
 use live_growth::link::Room;
 use live_growth::map::Guard;
 use live_pool::pool::Pool;
 use std::alloc::Global;
+use std::process::Abort;
 use std::test::Fail;
 use std::thread::{Threads, join};
 
@@ -45,20 +47,29 @@ fn given_back(map: &Pool, alloc: Global, key: u64) -> Option<Room> {
     Some(room)
 }
 
+// Each guard has the words that the one before it has left.
+fn take_the_room(rt: &impl Abort, map: &Pool, room: Room, next: Room) {
+    let steps = [
+        room.start > START,
+        room.left > 0,
+        room.start.wrapping_add(room.left) == START.wrapping_add(COUNT),
+        // Keys in other leaves take further words of the same room.
+        next.start > room.start,
+        next.start.wrapping_add(next.left) == START.wrapping_add(COUNT),
+        // A guard has a room to itself: the next one has none.
+        next_room(map) == next,
+        next_room(map).left == 0,
+    ];
+    all_hold(rt, &steps);
+}
+
 #[test]
 fn the_next_guard_has_the_room(rt: HostRuntime) -> Result<(), Fail> {
     let map = Pool::new(rt.alloc())?;
     assert!(rt; next_room(&map).left == 0);
     let room = given_back(&map, rt.alloc(), 5).ok_or("no key is stored")?;
-    assert!(rt; room.start > START && room.left > 0);
-    assert!(rt; room.start.wrapping_add(room.left) == START.wrapping_add(COUNT));
-    // Keys in other leaves take further words of the same room.
     let next = given_back(&map, rt.alloc(), 500).ok_or("no second key is stored")?;
-    assert!(rt; next.start > room.start);
-    assert!(rt; next.start.wrapping_add(next.left) == START.wrapping_add(COUNT));
-    // A guard has a room to itself: the next one has none.
-    assert!(rt; next_room(&map) == next);
-    assert!(rt; next_room(&map).left == 0);
+    take_the_room(&rt, &map, room, next);
     Ok(())
 }
 
@@ -190,23 +201,44 @@ fn by_another(map: &Pool, alloc: Global) -> (u64, Room) {
     (stored, room)
 }
 
+// A guard stores and removes its keys twice, with the same nodes.
+fn go_twice(rt: &impl Abort, alloc: Global, map: &Pool, guard: &mut Guard)
+    requires { guard.old.book ≡ map.now }
+    ensures { guard.new.book ≡ map.now }
+{
+    let there = come_and_go(map, alloc, guard);
+    let room = guard.room;
+    let steps = [
+        there == LEAVES,
+        room.spare.n4 > 0,
+        room.spare.more == 0,
+        // Where the second key parts from the first, a call needs two of one form.
+        room.spare.second > 0,
+        come_and_go(map, alloc, guard) == LEAVES,
+        room.left == guard.room.left,
+    ];
+    all_hold(rt, &steps);
+}
+
+// Another guard has a segment of its own, the next larger one. All its leaves but two are those of the first guard. It makes
+// those, and an inner node for sixteen, since the first guard keeps its own.
+fn go_by_another(rt: &impl Abort, alloc: Global, map: &Pool) {
+    let (stored, room) = by_another(map, alloc);
+    let used = room.start.wrapping_sub(START + COUNT);
+    let steps = [
+        stored == LEAVES,
+        used < 40,
+        used.wrapping_add(room.left) == 2 * COUNT,
+    ];
+    all_hold(rt, &steps);
+}
+
 #[test]
 fn nodes_that_are_taken_out_are_the_next_of_any_guard(rt: HostRuntime) -> Result<(), Fail> {
     let map = Pool::new(rt.alloc())?;
     let mut guard = map.pin();
-    assert!(rt; come_and_go(&map, rt.alloc(), &mut guard) == LEAVES);
-    assert!(rt; guard.room.spare.n4 > 0 && guard.room.spare.more == 0);
-    let left = guard.room.left;
-    // It does so again with the same nodes. Where the second key parts from the first, a call needs two of one form.
-    assert!(rt; guard.room.spare.second > 0);
-    assert!(rt; come_and_go(&map, rt.alloc(), &mut guard) == LEAVES);
-    assert!(rt; left == guard.room.left);
-    // Another guard has a segment of its own, the next larger one. All its leaves but two are those of the first guard. It makes
-    // those, and an inner node for sixteen, since the first guard keeps its own.
-    let (stored, room) = by_another(&map, rt.alloc());
-    assert!(rt; stored == LEAVES);
-    let used = room.start.wrapping_sub(START + COUNT);
-    assert!(rt; used < 40 && used.wrapping_add(room.left) == 2 * COUNT);
+    go_twice(&rt, rt.alloc(), &map, &mut guard);
+    go_by_another(&rt, rt.alloc(), &map);
     Ok(())
 }
 
@@ -241,13 +273,23 @@ fn a_window_that_moves_on_stays_in_its_room(rt: HostRuntime) -> Result<(), Fail>
 // Its multiples spread over all keys.
 const SPREAD: u64 = 0x9e37_79b9_7f4a_7c15;
 
+fn move_spread_keys(rt: &impl Abort, alloc: Global, map: &Pool, guard: &mut Guard)
+    requires { guard.old.book ≡ map.now }
+{
+    let first = move_on(map, alloc, guard, SPREAD, 0, 1_000);
+    let room = guard.room;
+    let steps = [
+        first == 1_000,
+        move_on(map, alloc, guard, SPREAD, 1_000, 100_000) == 99_000,
+        guard.room.start == room.start,
+        guard.room.left == room.left,
+    ];
+    all_hold(rt, &steps);
+}
+
 #[test]
 fn a_window_of_spread_keys_stays_in_its_room(rt: HostRuntime) -> Result<(), Fail> {
     let map = Pool::new(rt.alloc())?;
-    let mut guard = map.pin();
-    assert!(rt; move_on(&map, rt.alloc(), &mut guard, SPREAD, 0, 1_000) == 1_000);
-    let room = guard.room;
-    assert!(rt; move_on(&map, rt.alloc(), &mut guard, SPREAD, 1_000, 100_000) == 99_000);
-    assert!(rt; guard.room.start == room.start && guard.room.left == room.left);
+    move_spread_keys(&rt, rt.alloc(), &map, &mut map.pin());
     Ok(())
 }

@@ -2,35 +2,13 @@
 
 ghost use Rattle.std.specs.Prelude.{◌≡◌};
 
+use crate::calls::{all_hold, form_at};
+use crate::pool::calls::filled;
 use live_growth::map::Guard;
 use live_pool::pool::Pool;
-use live_reads::descend::descend;
 use std::alloc::Global;
+use std::process::Abort;
 use std::test::Fail;
-
-// The form of the node at which a key's path ends, by its place among the four. 4 where a writer came in between.
-fn form_at(map: &Pool, key: u64) -> u64 {
-    let mut guard = map.pin();
-    match descend(&map.map.nodes, key, &mut guard.seat) {
-        Some(end) => end.position.name % 256,
-        None => 4,
-    }
-}
-
-// Inserts as many keys, each with a value of its own. Returns how many were new.
-fn filled(map: &Pool, alloc: Global, guard: &mut Guard, first: u64, step: u64, count: u64) -> u64
-    requires { guard.old.book ≡ map.now }
-    ensures { guard.new.book ≡ map.now }
-{
-    let mut new = 0u64;
-    for i in 0..count {
-        let key = first.wrapping_add(i.wrapping_mul(step));
-        if map.insert(alloc, guard, key, key ^ 1) == Ok(None) {
-            new = new.wrapping_add(1);
-        }
-    }
-    new
-}
 
 // Removes the keys from one on to another. Returns how many were there.
 fn thinned(map: &Pool, guard: &mut Guard, step: u64, low: u64, high: u64) -> u64
@@ -71,7 +49,7 @@ fn shrunk(map: &Pool, guard: &mut Guard, step: u64, probe: u64) -> usize
     let mut there = 200u64;
     for (left, place) in LEFT {
         let gone = thinned(map, guard, step, left, there);
-        if gone == there.wrapping_sub(left) && form_at(map, probe) == place {
+        if gone == there.wrapping_sub(left) && form_at(&map.map, probe) == place {
             right = right.wrapping_add(1);
         }
         there = left;
@@ -79,17 +57,35 @@ fn shrunk(map: &Pool, guard: &mut Guard, step: u64, probe: u64) -> usize
     right
 }
 
+// It grows again, by the nodes that it left.
+fn shrink_and_grow(
+    rt: &impl Abort,
+    alloc: Global,
+    map: &Pool,
+    guard: &mut Guard,
+    step: u64,
+    probe: u64,
+)
+    requires { guard.old.book ≡ map.now }
+{
+    let new = filled(map, alloc, guard, 0, step, 200);
+    let right = shrunk(map, guard, step, probe);
+    let left = guard.room.left;
+    let steps = [
+        new == 200,
+        right == LEFT.len(),
+        filled(map, alloc, guard, step, step, 199) == 199,
+        form_at(&map.map, probe) == 3,
+        guard.room.left == left,
+    ];
+    all_hold(rt, &steps);
+}
+
 #[test]
 fn a_node_of_few_children_goes_into_a_smaller_form(rt: HostRuntime) -> Result<(), Fail> {
     for (step, probe) in APART {
         let map = Pool::new(rt.alloc())?;
-        let mut guard = map.pin();
-        assert!(rt; filled(&map, rt.alloc(), &mut guard, 0, step, 200) == 200);
-        assert!(rt; shrunk(&map, &mut guard, step, probe) == LEFT.len());
-        // It grows again, by the nodes that it left.
-        let left = guard.room.left;
-        assert!(rt; filled(&map, rt.alloc(), &mut guard, step, step, 199) == 199);
-        assert!(rt; form_at(&map, probe) == 3 && guard.room.left == left);
+        shrink_and_grow(&rt, rt.alloc(), &map, &mut map.pin(), step, probe);
     }
     Ok(())
 }
