@@ -1,36 +1,56 @@
 //! Counts of all keys, alone and beside four writers.
 
+ghost use Rattle.std.specs.Prelude.{◌≡◌};
+
 use crate::ranges::{KEYS, Keys, fill};
-use live_faces::live::Congee;
+use crate::steps::all_hold;
+use live_faces::live::{Congee, Guard};
 use spec_map::error::OOMError;
 use std::alloc::Global;
+use std::process::Abort;
 use std::sync::Wait;
 use std::test::Fail;
 use std::thread::{Threads, join};
 
 type Map = Congee<u64, u64>;
 
+fn count_none<R: Wait + Abort>(rt: &R, map: &Map, guard: &mut Guard)
+    requires { guard.old.book ≡ map.now }
+{
+    let steps = [
+        map.value_count(rt, guard) == 0,
+        map.try_value_count(guard) == Ok(0),
+        map.is_empty(rt, guard),
+        map.try_is_empty(guard) == Ok(true),
+    ];
+    all_hold(rt, &steps);
+}
+
 #[test]
 fn an_empty_map_has_no_pairs(rt: HostRuntime) -> Result<(), Fail> {
     let map: Map = Congee::new(rt.alloc())?;
-    let mut guard = map.pin();
-    assert!(rt; map.value_count(&rt, &mut guard) == 0);
-    assert!(rt; map.try_value_count(&mut guard) == Ok(0));
-    assert!(rt; map.is_empty(&rt, &mut guard));
-    assert!(rt; map.try_is_empty(&mut guard) == Ok(true));
+    count_none(&rt, &map, &mut map.pin());
     Ok(())
+}
+
+fn count_one<R: Wait + Abort>(rt: &R, alloc: Global, map: &Map, guard: &mut Guard)
+    requires { guard.old.book ≡ map.now }
+{
+    let steps = [
+        map.insert(rt, alloc, guard, u64::MAX, 5) == Ok(None),
+        map.value_count(rt, guard) == 1,
+        map.try_is_empty(guard) == Ok(false),
+        !map.is_empty(rt, guard),
+        map.remove(rt, guard, &u64::MAX) == Some(5),
+        map.is_empty(rt, guard),
+    ];
+    all_hold(rt, &steps);
 }
 
 #[test]
 fn a_map_whose_pair_was_removed_is_empty(rt: HostRuntime) -> Result<(), Fail> {
     let map: Map = Congee::new(rt.alloc())?;
-    let mut guard = map.pin();
-    let _ = map.insert(&rt, rt.alloc(), &mut guard, u64::MAX, 5)?;
-    assert!(rt; map.value_count(&rt, &mut guard) == 1);
-    assert!(rt; map.try_is_empty(&mut guard) == Ok(false));
-    assert!(rt; !map.is_empty(&rt, &mut guard));
-    let _ = map.remove(&rt, &mut guard, &u64::MAX);
-    assert!(rt; map.is_empty(&rt, &mut guard));
+    count_one(&rt, rt.alloc(), &map, &mut map.pin());
     Ok(())
 }
 
@@ -98,19 +118,22 @@ fn wrong_counts<R: Wait>(rt: &R, map: &Map, all: u128) -> u32 {
     wrong
 }
 
+// What four writers have entered, and how many counts beside them were wrong.
+fn count_beside<R: Threads + Wait + Sync>(rt: &R, alloc: Global, map: &Map) -> (bool, u32) {
+    join(
+        rt,
+        || enter_all(rt, alloc, map),
+        || wrong_counts(rt, map, 10_000),
+    )
+}
+
 #[test]
 fn a_count_beside_four_writers_is_between_those_before_and_after(
     rt: HostRuntime,
 ) -> Result<(), Fail> {
     let map: Map = Congee::new(rt.alloc())?;
     fill(&rt, rt.alloc(), &map, STAYING)?;
-    let (entered, wrong) = join(
-        &rt,
-        || enter_all(&rt, rt.alloc(), &map),
-        || wrong_counts(&rt, &map, 10_000),
-    );
-    assert!(rt; entered && wrong == 0);
-    let mut guard = map.pin();
-    assert!(rt; map.value_count(&rt, &mut guard) == 10_000);
+    assert!(rt; count_beside(&rt, rt.alloc(), &map) == (true, 0));
+    assert!(rt; map.value_count(&rt, &mut map.pin()) == 10_000);
     Ok(())
 }

@@ -30,6 +30,8 @@ mod snapshots;
 #[cfg(test)]
 mod sparse;
 #[cfg(test)]
+mod steps;
+#[cfg(test)]
 mod threads;
 #[cfg(test)]
 mod tries;

@@ -2,8 +2,10 @@
 
 ghost use Rattle.std.specs.Prelude.{◌≡◌};
 
+use crate::steps::all_hold;
 use live_faces::live::{Congee, Guard};
 use std::alloc::Global;
+use std::process::Abort;
 use std::sync::Wait;
 use std::test::Fail;
 use std::thread::{Threads, join};
@@ -75,17 +77,27 @@ fn by_two<R: Threads + Wait + Sync>(rt: &R, alloc: Global, map: &Map) -> (u64, u
     )
 }
 
+// What so many keys of either thread are, in a map that is full.
+fn replace_when_full<R: Wait + Abort>(rt: &R, alloc: Global, map: &Map, one: u64, two: u64) {
+    let steps = [
+        // (one of them may come late)
+        one.wrapping_add(two) > 200,
+        map.limit() == LIMIT,
+        map.usage() == (516_096, LIMIT),
+        found(rt, map, 0, one) == one,
+        found(rt, map, 1, two) == two,
+        one == 0 || is_replaced(rt, alloc, map, 0),
+        two == 0 || is_replaced(rt, alloc, map, 1),
+        map.charged() == 516_096,
+    ];
+    all_hold(rt, &steps);
+}
+
 #[test]
 fn two_threads_fill_a_map_up_to_its_limit(rt: HostRuntime) -> Result<(), Fail> {
     let map: Map = Congee::with_limit(rt.alloc(), LIMIT)?;
     let (one, two) = by_two(&rt, rt.alloc(), &map);
-    // (one of them may come late)
-    assert!(rt; one.wrapping_add(two) > 200);
-    assert!(rt; map.limit() == LIMIT && map.usage() == (516_096, LIMIT));
-    assert!(rt; found(&rt, &map, 0, one) == one && found(&rt, &map, 1, two) == two);
-    assert!(rt; one == 0 || is_replaced(&rt, rt.alloc(), &map, 0));
-    assert!(rt; two == 0 || is_replaced(&rt, rt.alloc(), &map, 1));
-    assert!(rt; map.charged() == 516_096);
+    replace_when_full(&rt, rt.alloc(), &map, one, two);
     Ok(())
 }
 

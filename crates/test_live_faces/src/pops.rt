@@ -3,10 +3,14 @@
 ghost use Rattle.std.specs.Prelude.{◌≡◌};
 
 use crate::ranges::{KEYS, Keys, fill};
-use live_faces::live::Congee;
+use crate::steps::all_hold;
+use live_faces::live::{Congee, Guard};
+use spec_map::error::OOMError;
+use std::alloc::Global;
+use std::process::Abort;
 use std::sync::Wait;
 use std::test::Fail;
-use std::thread::join;
+use std::thread::{Threads, join};
 
 type Map = Congee<u64, u64>;
 
@@ -21,6 +25,13 @@ const NINE: Keys = Keys {
     count: 9,
 };
 
+// A map with these keys.
+fn nine<R: Wait>(rt: &R, alloc: Global) -> Result<Map, OOMError> {
+    let map: Map = Congee::new(alloc)?;
+    fill(rt, alloc, &map, NINE)?;
+    Ok(map)
+}
+
 // Of the keys 1000, 2000 .. 9000 in turn: a bound, and the key that a pop up to it returns.
 const FIRST: [(u64, Option<u64>); 7] = [
     (999, None),
@@ -32,18 +43,21 @@ const FIRST: [(u64, Option<u64>); 7] = [
     (u64::MAX, Some(4000)),
 ];
 
-#[test]
-fn a_pop_up_to_a_key_returns_the_least(rt: HostRuntime) -> Result<(), Fail> {
-    let map: Map = Congee::new(rt.alloc())?;
-    let other: Map = Congee::new(rt.alloc())?;
-    fill(&rt, rt.alloc(), &map, NINE)?;
-    fill(&rt, rt.alloc(), &other, NINE)?;
+// Each form of the call pops from a map of its own.
+fn pop_upwards<R: Wait + Abort>(rt: &R, map: &Map, other: &Map) {
     for (key, popped) in FIRST {
         let mut guard = map.pin();
-        assert!(rt; map.pop_first_to(&rt, &mut guard, &key) == pair(popped));
+        assert!(rt; map.pop_first_to(rt, &mut guard, &key) == pair(popped));
         let mut guard = other.pin();
         assert!(rt; other.try_pop_first_to(&mut guard, &key) == Ok(pair(popped)));
     }
+}
+
+#[test]
+fn a_pop_up_to_a_key_returns_the_least(rt: HostRuntime) -> Result<(), Fail> {
+    let map = nine(&rt, rt.alloc())?;
+    let other = nine(&rt, rt.alloc())?;
+    pop_upwards(&rt, &map, &other);
     Ok(())
 }
 
@@ -58,33 +72,44 @@ const LAST: [(u64, Option<u64>); 7] = [
     (0, Some(6000)),
 ];
 
-#[test]
-fn a_pop_from_a_key_on_returns_the_greatest(rt: HostRuntime) -> Result<(), Fail> {
-    let map: Map = Congee::new(rt.alloc())?;
-    let other: Map = Congee::new(rt.alloc())?;
-    fill(&rt, rt.alloc(), &map, NINE)?;
-    fill(&rt, rt.alloc(), &other, NINE)?;
+fn pop_downwards<R: Wait + Abort>(rt: &R, map: &Map, other: &Map) {
     for (key, popped) in LAST {
         let mut guard = map.pin();
-        assert!(rt; map.pop_last_from(&rt, &mut guard, &key) == pair(popped));
+        assert!(rt; map.pop_last_from(rt, &mut guard, &key) == pair(popped));
         let mut guard = other.pin();
         assert!(rt; other.try_pop_last_from(&mut guard, &key) == Ok(pair(popped)));
     }
+}
+
+#[test]
+fn a_pop_from_a_key_on_returns_the_greatest(rt: HostRuntime) -> Result<(), Fail> {
+    let map = nine(&rt, rt.alloc())?;
+    let other = nine(&rt, rt.alloc())?;
+    pop_downwards(&rt, &map, &other);
     Ok(())
+}
+
+// Pops both ends of the keys 0, 1000, 2000 .. 9000 and the greatest one.
+fn pop_ends<R: Wait + Abort>(rt: &R, alloc: Global, map: &Map, guard: &mut Guard)
+    requires { guard.old.book ≡ map.now }
+{
+    let steps = [
+        map.pop_last(rt, guard).is_none(),
+        fill(rt, alloc, map, NINE).is_ok(),
+        map.insert(rt, alloc, guard, u64::MAX, 5) == Ok(None),
+        map.insert(rt, alloc, guard, 0, 6) == Ok(None),
+        map.pop_last(rt, guard) == Some((u64::MAX, 5)),
+        map.try_pop_last(guard) == Ok(Some((9000, 9001))),
+        map.pop_first(rt, guard) == Some((0, 6)),
+        map.try_pop_first(guard) == Ok(Some((1000, 1001))),
+    ];
+    all_hold(rt, &steps);
 }
 
 #[test]
 fn a_pop_returns_an_end(rt: HostRuntime) -> Result<(), Fail> {
     let map: Map = Congee::new(rt.alloc())?;
-    let mut guard = map.pin();
-    assert!(rt; map.pop_last(&rt, &mut guard) == None);
-    fill(&rt, rt.alloc(), &map, NINE)?;
-    let _ = map.insert(&rt, rt.alloc(), &mut guard, u64::MAX, 5)?;
-    let _ = map.insert(&rt, rt.alloc(), &mut guard, 0, 6)?;
-    assert!(rt; map.pop_last(&rt, &mut guard) == Some((u64::MAX, 5)));
-    assert!(rt; map.try_pop_last(&mut guard) == Ok(Some((9000, 9001))));
-    assert!(rt; map.pop_first(&rt, &mut guard) == Some((0, 6)));
-    assert!(rt; map.try_pop_first(&mut guard) == Ok(Some((1000, 1001))));
+    pop_ends(&rt, rt.alloc(), &map, &mut map.pin());
     Ok(())
 }
 
@@ -126,14 +151,22 @@ fn falling<R: Wait>(rt: &R, map: &Map, keys: Keys) -> u32 {
     }
 }
 
+// The keys come in order from below, and once they are there again, from above.
+fn pop_all<R: Wait + Abort>(rt: &R, alloc: Global, map: &Map, keys: Keys) {
+    let steps = [
+        fill(rt, alloc, map, keys).is_ok(),
+        rising(rt, map, keys) == keys.count,
+        fill(rt, alloc, map, keys).is_ok(),
+        falling(rt, map, keys) == keys.count,
+    ];
+    all_hold(rt, &steps);
+}
+
 #[test]
 fn pops_return_all_pairs_in_order(rt: HostRuntime) -> Result<(), Fail> {
     for keys in KEYS {
         let map: Map = Congee::new(rt.alloc())?;
-        fill(&rt, rt.alloc(), &map, keys)?;
-        assert!(rt; rising(&rt, &map, keys) == keys.count);
-        fill(&rt, rt.alloc(), &map, keys)?;
-        assert!(rt; falling(&rt, &map, keys) == keys.count);
+        pop_all(&rt, rt.alloc(), &map, keys);
     }
     Ok(())
 }
@@ -173,19 +206,23 @@ fn popped_from_below<R: Wait>(rt: &R, map: &Map) -> Option<u64> {
     None
 }
 
+// One thread enters the odd keys, and another one pops.
+fn pop_beside<R: Threads + Wait + Sync>(rt: &R, alloc: Global, map: &Map) -> (bool, Option<u64>) {
+    join(
+        rt,
+        || fill(rt, alloc, map, ODD).is_ok(),
+        || popped_from_below(rt, map),
+    )
+}
+
 #[test]
 fn a_pop_passes_no_key_that_stays_beside_a_writer(rt: HostRuntime) -> Result<(), Fail> {
     let map: Map = Congee::new(rt.alloc())?;
     fill(&rt, rt.alloc(), &map, EVEN)?;
-    let (filled, count) = join(
-        &rt,
-        || fill(&rt, rt.alloc(), &map, ODD),
-        || popped_from_below(&rt, &map),
-    );
-    assert!(rt; filled.is_ok());
+    let (filled, count) = pop_beside(&rt, rt.alloc(), &map);
+    assert!(rt; filled);
     let popped = u128::from(count.unwrap_or(0));
-    let mut guard = map.pin();
-    assert!(rt; popped.wrapping_add(map.clear(&rt, &mut guard)) == u128::from(END));
+    assert!(rt; popped.wrapping_add(map.clear(&rt, &mut map.pin())) == u128::from(END));
     Ok(())
 }
 
@@ -217,23 +254,31 @@ fn added(a: Option<(u64, u64)>, b: Option<(u64, u64)>) -> Option<(u64, u64)> {
     Some((a.0.wrapping_add(b.0), a.1.wrapping_add(b.1)))
 }
 
+// Two threads pop from below: what both have.
+fn pop_by_two<R: Threads + Wait + Sync>(rt: &R, map: &Map) -> Option<(u64, u64)> {
+    let (a, b) = join(
+        rt,
+        || popped_in_order(rt, map, true),
+        || popped_in_order(rt, map, true),
+    );
+    added(a, b)
+}
+
+// A third one pops from above: what all have.
+fn pop_by_three<R: Threads + Wait + Sync>(rt: &R, map: &Map) -> Option<(u64, u64)> {
+    let (low, high) = join(
+        rt,
+        || pop_by_two(rt, map),
+        || popped_in_order(rt, map, false),
+    );
+    added(low, high)
+}
+
 #[test]
 fn each_pair_goes_to_one_of_three_threads(rt: HostRuntime) -> Result<(), Fail> {
     let map: Map = Congee::new(rt.alloc())?;
     fill(&rt, rt.alloc(), &map, EVEN)?;
     fill(&rt, rt.alloc(), &map, ODD)?;
-    let (low, high) = join(
-        &rt,
-        || {
-            join(
-                &rt,
-                || popped_in_order(&rt, &map, true),
-                || popped_in_order(&rt, &map, true),
-            )
-        },
-        || popped_in_order(&rt, &map, false),
-    );
-    let all = added(added(low.0, low.1), high);
-    assert!(rt; all == Some((END, END * (END - 1) / 2)));
+    assert!(rt; pop_by_three(&rt, &map) == Some((END, END * (END - 1) / 2)));
     Ok(())
 }

@@ -2,9 +2,11 @@
 
 ghost use Rattle.std.specs.Prelude.{◌≡◌};
 
+use crate::steps::all_hold;
 use live_faces::live::{Congee, Guard};
 use spec_map::error::OOMError;
 use std::alloc::Global;
+use std::process::Abort;
 use std::sync::Wait;
 use std::test::Fail;
 
@@ -182,7 +184,14 @@ fn counted<R: Wait>(rt: &R, map: &Map, first: u64, last: u64) -> (usize, usize) 
     (open, closed)
 }
 
-// Of the keys 10, 20 .. 300: from, to, and how many a range without its end has, and one with it.
+// The keys 10, 20 .. 300.
+const THIRTY: Keys = Keys {
+    first: 10,
+    step: 10,
+    count: 30,
+};
+
+// Of these keys: from, to, and how many a range without its end has, and one with it.
 const COUNTS: [(u64, u64, usize, usize); 8] = [
     (0, 0, 0, 0),
     (0, 10, 0, 1),
@@ -194,45 +203,39 @@ const COUNTS: [(u64, u64, usize, usize); 8] = [
     (20, 10, 0, 0),
 ];
 
+fn count_ranges<R: Wait + Abort>(rt: &R, map: &Map) {
+    for (first, last, open, closed) in COUNTS {
+        assert!(rt; counted(rt, map, first, last) == (open, closed));
+    }
+    assert!(rt; counted(rt, map, 0, u64::MAX) == (30, 30));
+}
+
 #[test]
 fn a_range_has_its_first_key_and_ends_before_its_end(rt: HostRuntime) -> Result<(), Fail> {
     let map: Map = Congee::new(rt.alloc())?;
-    fill(
-        &rt,
-        rt.alloc(),
-        &map,
-        Keys {
-            first: 10,
-            step: 10,
-            count: 30,
-        },
-    )?;
-    for (first, last, open, closed) in COUNTS {
-        assert!(rt; counted(&rt, &map, first, last) == (open, closed));
-    }
-    assert!(rt; counted(&rt, &map, 0, u64::MAX) == (30, 30));
+    fill(&rt, rt.alloc(), &map, THIRTY)?;
+    count_ranges(&rt, &map);
     Ok(())
+}
+
+fn read_full_pages<R: Wait + Abort>(rt: &R, map: &Map, guard: &mut Guard)
+    requires { guard.old.book ≡ map.now }
+{
+    let mut three = [(0u64, 0u64); 3];
+    let steps = [
+        map.range(rt, guard, &15, &1000, &mut three) == 3,
+        three == [(20, 21), (30, 31), (40, 41)],
+        map.range(rt, guard, &15, &1000, &mut []) == 0,
+        map.try_range(guard, &41, &61, &mut three) == Ok(2),
+        map.try_range_inclusive(guard, &u64::MAX, &u64::MAX, &mut three) == Ok(0),
+    ];
+    all_hold(rt, &steps);
 }
 
 #[test]
 fn a_full_buffer_ends_a_page(rt: HostRuntime) -> Result<(), Fail> {
     let map: Map = Congee::new(rt.alloc())?;
-    fill(
-        &rt,
-        rt.alloc(),
-        &map,
-        Keys {
-            first: 10,
-            step: 10,
-            count: 30,
-        },
-    )?;
-    let mut guard = map.pin();
-    let mut three = [(0u64, 0u64); 3];
-    assert!(rt; map.range(&rt, &mut guard, &15, &1000, &mut three) == 3);
-    assert!(rt; three == [(20, 21), (30, 31), (40, 41)]);
-    assert!(rt; map.range(&rt, &mut guard, &15, &1000, &mut []) == 0);
-    assert!(rt; map.try_range(&mut guard, &41, &61, &mut three) == Ok(2));
-    assert!(rt; map.try_range_inclusive(&mut guard, &u64::MAX, &u64::MAX, &mut three) == Ok(0));
+    fill(&rt, rt.alloc(), &map, THIRTY)?;
+    read_full_pages(&rt, &map, &mut map.pin());
     Ok(())
 }

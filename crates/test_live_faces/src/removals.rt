@@ -3,10 +3,13 @@
 ghost use Rattle.std.specs.Prelude.{◌≡◌};
 
 use crate::ranges::{KEYS, Keys, fill};
-use live_faces::live::Congee;
+use crate::steps::all_hold;
+use live_faces::live::{Congee, Guard};
+use std::alloc::Global;
+use std::process::Abort;
 use std::sync::Wait;
 use std::test::Fail;
-use std::thread::join;
+use std::thread::{Threads, join};
 
 type Map = Congee<u64, u64>;
 
@@ -23,6 +26,26 @@ const COUNTS: [(u64, u64, u128); 9] = [
     (u64::MAX, u64::MAX, 0),
 ];
 
+// What the removals of these ranges, in turn, remove.
+fn remove_ranges<R: Wait + Abort>(rt: &R, map: &Map) {
+    for (first, last, count) in COUNTS {
+        let mut guard = map.pin();
+        assert!(rt; map.remove_range_inclusive(rt, &mut guard, &first, &last) == count);
+    }
+}
+
+// What is left behind them is removed.
+fn remove_rest<R: Wait + Abort>(rt: &R, map: &Map, guard: &mut Guard)
+    requires { guard.old.book ≡ map.now }
+{
+    let steps = [
+        map.value_count(rt, guard) == 23,
+        map.clear(rt, guard) == 23,
+        map.is_empty(rt, guard),
+    ];
+    all_hold(rt, &steps);
+}
+
 #[test]
 fn a_range_is_removed_with_both_ends(rt: HostRuntime) -> Result<(), Fail> {
     let map: Map = Congee::new(rt.alloc())?;
@@ -32,15 +55,16 @@ fn a_range_is_removed_with_both_ends(rt: HostRuntime) -> Result<(), Fail> {
         count: 30,
     };
     fill(&rt, rt.alloc(), &map, keys)?;
-    for (first, last, count) in COUNTS {
-        let mut guard = map.pin();
-        assert!(rt; map.remove_range_inclusive(&rt, &mut guard, &first, &last) == count);
-    }
-    let mut guard = map.pin();
-    assert!(rt; map.value_count(&rt, &mut guard) == 23);
-    assert!(rt; map.clear(&rt, &mut guard) == 23);
-    assert!(rt; map.is_empty(&rt, &mut guard));
+    remove_ranges(&rt, &map);
+    remove_rest(&rt, &map, &mut map.pin());
     Ok(())
+}
+
+// How many a removal of all removes, and whether none is left.
+fn cleared<R: Wait>(rt: &R, map: &Map) -> (u128, bool) {
+    let mut guard = map.pin();
+    let count = map.clear(rt, &mut guard);
+    (count, map.first(rt, &mut guard).is_none())
 }
 
 #[test]
@@ -48,9 +72,7 @@ fn all_pairs_are_removed_of_nodes_of_each_form(rt: HostRuntime) -> Result<(), Fa
     for keys in KEYS {
         let map: Map = Congee::new(rt.alloc())?;
         fill(&rt, rt.alloc(), &map, keys)?;
-        let mut guard = map.pin();
-        assert!(rt; map.clear(&rt, &mut guard) == u128::from(keys.count));
-        assert!(rt; map.first(&rt, &mut guard) == None);
+        assert!(rt; cleared(&rt, &map) == (u128::from(keys.count), true));
     }
     Ok(())
 }
@@ -69,31 +91,45 @@ fn even_popped<R: Wait>(rt: &R, map: &Map) -> u32 {
     even
 }
 
+// How many a removal of all removes, by a guard of its own.
+fn removed<R: Wait>(rt: &R, map: &Map) -> u128 {
+    let mut guard = map.pin();
+    map.clear(rt, &mut guard)
+}
+
+// One thread enters these keys, and another one removes all.
+fn remove_beside<R: Threads + Wait + Sync>(
+    rt: &R,
+    alloc: Global,
+    map: &Map,
+    keys: Keys,
+) -> (bool, u128) {
+    join(
+        rt,
+        || fill(rt, alloc, map, keys).is_ok(),
+        || removed(rt, map),
+    )
+}
+
+const EVEN: Keys = Keys {
+    first: 0,
+    step: 2,
+    count: 3000,
+};
+
+const ODD: Keys = Keys {
+    first: 1,
+    step: 2,
+    count: 3000,
+};
+
 #[test]
 fn keys_that_are_there_throughout_are_removed(rt: HostRuntime) -> Result<(), Fail> {
     let map: Map = Congee::new(rt.alloc())?;
-    let even = Keys {
-        first: 0,
-        step: 2,
-        count: 3000,
-    };
-    let odd = Keys {
-        first: 1,
-        step: 2,
-        count: 3000,
-    };
-    fill(&rt, rt.alloc(), &map, even)?;
-    let (filled, removed) = join(
-        &rt,
-        || fill(&rt, rt.alloc(), &map, odd),
-        || {
-            let mut guard = map.pin();
-            map.clear(&rt, &mut guard)
-        },
-    );
-    assert!(rt; filled.is_ok());
-    let mut guard = map.pin();
-    assert!(rt; removed.wrapping_add(map.value_count(&rt, &mut guard)) == 6000);
+    fill(&rt, rt.alloc(), &map, EVEN)?;
+    let (filled, removed) = remove_beside(&rt, rt.alloc(), &map, ODD);
+    assert!(rt; filled);
+    assert!(rt; removed.wrapping_add(map.value_count(&rt, &mut map.pin())) == 6000);
     assert!(rt; even_popped(&rt, &map) == 0);
     Ok(())
 }

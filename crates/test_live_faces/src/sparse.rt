@@ -8,7 +8,7 @@ use spec_map::error::OOMError;
 use std::alloc::Global;
 use std::sync::Wait;
 use std::test::Fail;
-use std::thread::join;
+use std::thread::{Threads, join};
 
 type Map = Congee<u64, u64>;
 
@@ -130,17 +130,20 @@ fn wrong_pages<R: Wait>(rt: &R, map: &Map, pages: u32) -> u32 {
     wrong
 }
 
+// One thread writes, and another one reads pages.
+fn pages_beside<R: Threads + Wait + Sync>(rt: &R, alloc: Global, map: &Map) -> (bool, u32) {
+    join(
+        rt,
+        || write(rt, alloc, map, 100).is_ok(),
+        || wrong_pages(rt, map, 400),
+    )
+}
+
 #[test]
 fn pages_go_on_where_nodes_come_and_go(rt: HostRuntime) -> Result<(), Fail> {
     let map: Map = Congee::new(rt.alloc())?;
     fill(&rt, rt.alloc(), &map, STAYING)?;
-    let (written, wrong) = join(
-        &rt,
-        || write(&rt, rt.alloc(), &map, 100),
-        || wrong_pages(&rt, &map, 400),
-    );
-    assert!(rt; written.is_ok() && wrong == 0);
-    let mut guard = map.pin();
-    assert!(rt; map.value_count(&rt, &mut guard) == 300);
+    assert!(rt; pages_beside(&rt, rt.alloc(), &map) == (true, 0));
+    assert!(rt; map.value_count(&rt, &mut map.pin()) == 300);
     Ok(())
 }

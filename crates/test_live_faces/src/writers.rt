@@ -4,14 +4,21 @@ ghost use Rattle.std.specs.Prelude.{◌≡◌};
 
 use crate::ranges::{Keys, fill};
 use live_faces::live::{Congee, Guard};
+use std::alloc::Global;
 use std::sync::Wait;
 use std::test::Fail;
-use std::thread::join;
+use std::thread::{Threads, join};
 
 type Map = Congee<u64, u64>;
 
 // The even keys below this one are there throughout. A writer enters the odd ones.
 const END: u64 = 6000;
+
+const EVEN: Keys = Keys {
+    first: 0,
+    step: 2,
+    count: 3000,
+};
 
 const ODD: Keys = Keys {
     first: 1,
@@ -87,47 +94,37 @@ fn wrong_floors<R: Wait>(rt: &R, map: &Map, times: u32) -> u32 {
     wrong
 }
 
+// One thread enters the odd keys, and another one looks for pairs before.
+fn floors_beside<R: Threads + Wait + Sync>(rt: &R, alloc: Global, map: &Map) -> (bool, u32) {
+    join(
+        rt,
+        || fill(rt, alloc, map, ODD).is_ok(),
+        || wrong_floors(rt, map, 3),
+    )
+}
+
 #[test]
 fn the_pair_before_is_found_beside_a_writer(rt: HostRuntime) -> Result<(), Fail> {
     let map: Map = Congee::new(rt.alloc())?;
-    fill(
-        &rt,
-        rt.alloc(),
-        &map,
-        Keys {
-            first: 0,
-            step: 2,
-            count: 3000,
-        },
-    )?;
-    let (filled, wrong) = join(
-        &rt,
-        || fill(&rt, rt.alloc(), &map, ODD),
-        || wrong_floors(&rt, &map, 3),
-    );
-    assert!(rt; filled.is_ok() && wrong == 0);
+    fill(&rt, rt.alloc(), &map, EVEN)?;
+    assert!(rt; floors_beside(&rt, rt.alloc(), &map) == (true, 0));
     Ok(())
+}
+
+// One thread enters the odd keys, and another one reads pages.
+fn pages_beside<R: Threads + Wait + Sync>(rt: &R, alloc: Global, map: &Map) -> (bool, u32) {
+    join(
+        rt,
+        || fill(rt, alloc, map, ODD).is_ok(),
+        || wrong_pages(rt, map, 30),
+    )
 }
 
 #[test]
 fn keys_that_are_there_throughout_are_given(rt: HostRuntime) -> Result<(), Fail> {
     let map: Map = Congee::new(rt.alloc())?;
-    fill(
-        &rt,
-        rt.alloc(),
-        &map,
-        Keys {
-            first: 0,
-            step: 2,
-            count: 3000,
-        },
-    )?;
-    let (filled, wrong) = join(
-        &rt,
-        || fill(&rt, rt.alloc(), &map, ODD),
-        || wrong_pages(&rt, &map, 30),
-    );
-    assert!(rt; filled.is_ok() && wrong == 0);
+    fill(&rt, rt.alloc(), &map, EVEN)?;
+    assert!(rt; pages_beside(&rt, rt.alloc(), &map) == (true, 0));
     assert!(rt; wrong_pages(&rt, &map, 1) == 0);
     Ok(())
 }
