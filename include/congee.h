@@ -374,6 +374,26 @@ static inline int congee_pop_last(struct congee *map, struct congee_pair *pair) 
     return 1;
 }
 
+/* Removes the pair with the least key, if that key is at most `key`. Returns CONGEE_PRESENT with the removed pair in
+ * *pair, or CONGEE_ABSENT if the map has no such pair, which leaves *pair unchanged. A pop never fails. The call reads
+ * two paths. */
+static inline int congee_pop_first_to(struct congee *map, uint64_t key, struct congee_pair *pair) {
+    struct congee_pair it = {0, 0};
+    if (congee_first(map, &it) == CONGEE_ABSENT || it.key > key)
+        return CONGEE_ABSENT;
+    return congee_pop_first(map, pair);
+}
+
+/* Removes the pair with the greatest key, if that key is at least `key`. Returns CONGEE_PRESENT with the removed pair
+ * in *pair, or CONGEE_ABSENT if the map has no such pair, which leaves *pair unchanged. A pop never fails. The call
+ * reads two paths. */
+static inline int congee_pop_last_from(struct congee *map, uint64_t key, struct congee_pair *pair) {
+    struct congee_pair it = {0, 0};
+    if (congee_last(map, &it) == CONGEE_ABSENT || it.key < key)
+        return CONGEE_ABSENT;
+    return congee_pop_last(map, pair);
+}
+
 /* -- Many pairs -- */
 
 /* How many pairs congee_each and the like calls read at once: at first, and then. */
@@ -439,6 +459,27 @@ static inline size_t congee_insert_many(struct congee *map, const struct congee_
     return done;
 }
 
+/* A function that congee_retain and the like calls call with each pair. It returns whether the pair stays. */
+typedef bool congee_predicate(struct congee_pair pair, void *with);
+
+/* Calls keep(pair, with) once for each pair, keys ascending, and removes the pairs for which `keep` returns false.
+ * Returns how many pairs were removed. `keep` may read the map, and changes no key of the map. The pairs are read in
+ * pages of 64, and removed one by one. The call takes no memory of its own, and never fails. */
+static inline uint64_t congee_retain(struct congee *map, congee_predicate *keep, void *with) {
+    struct congee_pair page[64] = {{0, 0}};
+    uint64_t start = 0, removed = 0;
+    size_t n;
+    while ((n = congee_range_inclusive(map, start, UINT64_MAX, page, 64)) > 0) {
+        for (size_t i = 0; i < n; i++)
+            if (!keep(page[i], with))
+                removed += (uint64_t)congee_remove(map, page[i].key, NULL);
+        if (n < 64 || page[63].key == UINT64_MAX)
+            break;
+        start = page[63].key + 1;
+    }
+    return removed;
+}
+
 /* Removes all pairs, and returns their memory to malloc. The call never fails. If malloc has 2104 bytes for a new root,
  * which aren't charged, the call frees the map node by node. Otherwise it reads one path for each pair. */
 static inline void congee_clear(struct congee *map) {
@@ -452,6 +493,29 @@ static inline void congee_clear(struct congee *map) {
 static inline void congee_shrink_to_fit(struct congee *map) {
     struct congee_handle handle = {map};
     congee_c_shrink_to_fit(&handle);
+}
+
+/* Copies the pairs into a new map with the same limit. Returns CONGEE_DONE with the copy in *out, or CONGEE_OOM with
+ * null there and no copy left. The map is unchanged. A map near its limit may have no copy: while a node of the copy
+ * grows, both sizes are charged. The cost is that of reading each pair, and of an insertion for each. */
+static inline int congee_snapshot(const struct congee *map, struct congee **out) {
+    struct congee_const_handle handle = {map};
+    struct congee_pair page[64] = {{0, 0}};
+    uint64_t start = 0;
+    size_t n;
+    if (congee_new_with_limit(out, congee_c_limit(&handle)) == CONGEE_OOM)
+        return CONGEE_OOM;
+    for (;;) {
+        n = congee_range_inclusive(map, start, UINT64_MAX, page, 64);
+        if (congee_insert_many(*out, page, n) < n) {
+            congee_free(*out);
+            *out = NULL;
+            return CONGEE_OOM;
+        }
+        if (n < 64 || page[63].key == UINT64_MAX)
+            return CONGEE_DONE;
+        start = page[63].key + 1;
+    }
 }
 
 /* Removes the pairs with start <= key <= last, and returns how many pairs were removed, which saturates at UINT64_MAX.
@@ -622,6 +686,28 @@ static inline int congee_frozen_each_descending(const struct congee_frozen *froz
             return 0;
         last = page[n - 1].key - 1;
         room = CONGEE_PAGE;
+    }
+}
+
+/* Copies the pairs of a frozen map into a new map with one owner and without a limit. Returns CONGEE_DONE with the copy
+ * in *out, or CONGEE_OOM with null there and no copy left. Readers of the frozen map go on. The cost is that of reading
+ * each pair, and of an insertion for each. */
+static inline int congee_frozen_snapshot(const struct congee_frozen *frozen, struct congee **out) {
+    struct congee_pair page[64] = {{0, 0}};
+    uint64_t start = 0;
+    size_t n;
+    if (congee_new(out) == CONGEE_OOM)
+        return CONGEE_OOM;
+    for (;;) {
+        n = congee_frozen_range_inclusive(frozen, start, UINT64_MAX, page, 64);
+        if (congee_insert_many(*out, page, n) < n) {
+            congee_free(*out);
+            *out = NULL;
+            return CONGEE_OOM;
+        }
+        if (n < 64 || page[63].key == UINT64_MAX)
+            return CONGEE_DONE;
+        start = page[63].key + 1;
     }
 }
 

@@ -30,6 +30,7 @@
 #include <optional>
 #include <stdexcept>
 #include <utility>
+#include <vector>
 
 namespace congee_cpp {
 
@@ -207,9 +208,16 @@ public:
     const_iterator find(std::uint64_t key) const {
         return found([key](const congee *of, congee_pair *at) { return congee_get(of, at->key = key, &at->value); });
     }
-    /* Returns the place of the greatest key that is at most `key`, or end(). */
+    /* Returns the place of the greatest key that is at most `key` (floor) or below `key`, or of the greatest key (last), or
+     * end(). */
     const_iterator floor(std::uint64_t key) const {
         return found([key](const congee *of, congee_pair *at) { return congee_floor(of, key, at); });
+    }
+    const_iterator below(std::uint64_t key) const {
+        return found([key](const congee *of, congee_pair *at) { return congee_below(of, key, at); });
+    }
+    const_iterator last() const {
+        return found([](const congee *of, congee_pair *at) { return congee_last(of, at); });
     }
 
     bool empty() const { return !map_ || congee_is_empty(map_); }
@@ -254,6 +262,17 @@ public:
                 f);
     }
     template <class F> void each_descending(F f) const { each_descending(0, UINT64_MAX, f); }
+    /* Returns the keys from first to last, or the values of these keys, keys ascending. */
+    std::vector<std::uint64_t> keys(std::uint64_t first = 0, std::uint64_t last = UINT64_MAX) const {
+        std::vector<std::uint64_t> all;
+        each(first, last, [&all](std::uint64_t key, std::uint64_t) { all.push_back(key); });
+        return all;
+    }
+    std::vector<std::uint64_t> values(std::uint64_t first = 0, std::uint64_t last = UINT64_MAX) const {
+        std::vector<std::uint64_t> all;
+        each(first, last, [&all](std::uint64_t, std::uint64_t value) { all.push_back(value); });
+        return all;
+    }
 
     /* Sets the key's value. Returns the key's place, and whether the key is new. */
     std::pair<const_iterator, bool> insert_or_assign(std::uint64_t key, std::uint64_t value) {
@@ -309,6 +328,23 @@ public:
         congee_pair at = {0, 0};
         return inner::pair_if(map_ ? congee_pop_last(map_, &at) : 0, at);
     }
+    /* Removes the pair with the least key, if that key is at most `key`, or the pair with the greatest key, if that key is at
+     * least `key`, and returns the pair. */
+    std::optional<pair> pop_first_to(std::uint64_t key) {
+        congee_pair at = {0, 0};
+        return inner::pair_if(map_ ? congee_pop_first_to(map_, key, &at) : 0, at);
+    }
+    std::optional<pair> pop_last_from(std::uint64_t key) {
+        congee_pair at = {0, 0};
+        return inner::pair_if(map_ ? congee_pop_last_from(map_, key, &at) : 0, at);
+    }
+    /* Calls the function once with the key and the value of each pair, keys ascending, and removes the pairs for which the
+     * function returns false. Returns how many. The function may read the map, and doesn't change the map. */
+    template <class F> size_type retain(F keep) {
+        size_type removed = 0;
+        each([&](std::uint64_t key, std::uint64_t value) { removed += keep(key, value) ? 0 : erase(key); });
+        return removed;
+    }
     /* Replaces the key's value by `desired` if the value is `expected`, and returns true. Otherwise returns false: a present
      * key's value is in `expected` then, and for an absent key `expected` is unchanged. */
     bool compare_exchange(std::uint64_t key, std::uint64_t &expected, std::uint64_t desired) {
@@ -338,6 +374,11 @@ public:
     void clear() {
         if (map_)
             congee_clear(map_);
+    }
+    /* Returns memory to malloc that is held for removed nodes (congee_shrink_to_fit). */
+    void shrink_to_fit() {
+        if (map_)
+            congee_shrink_to_fit(map_);
     }
 
     /* The place of a key's value. `m[k]` reads the value, or 0 for an absent key, and inserts nothing. `m[k] = v`,
@@ -442,6 +483,8 @@ struct live_calls {
     static constexpr auto below = congee_live_below;
     static constexpr auto pop_first = congee_live_pop_first;
     static constexpr auto pop_last = congee_live_pop_last;
+    static constexpr auto pop_first_to = congee_live_pop_first_to;
+    static constexpr auto pop_last_from = congee_live_pop_last_from;
     static constexpr auto clear = congee_live_clear;
     static constexpr auto is_empty = congee_live_is_empty;
     static constexpr auto count = congee_live_count;
@@ -476,6 +519,8 @@ struct shared_calls {
     static constexpr auto below = congee_shared_below;
     static constexpr auto pop_first = congee_shared_pop_first;
     static constexpr auto pop_last = congee_shared_pop_last;
+    static constexpr auto pop_first_to = congee_shared_pop_first_to;
+    static constexpr auto pop_last_from = congee_shared_pop_last_from;
     static constexpr auto clear = congee_shared_clear;
     static constexpr auto is_empty = congee_shared_is_empty;
     static constexpr auto count = congee_shared_count;
@@ -617,11 +662,35 @@ public:
         congee_pair at = {0, 0};
         return pair_if(C::pop_last(map_, &at), at);
     }
+    /* Removes the pair with the least key, if that key is at most `key`, or the pair with the greatest key, if that key is at
+     * least `key`, and returns the pair, or none. Two threads never pop one pair. A lesser or greater key may have been
+     * inserted during the call, and stays, in a shared map too: the search and the removal are of a moment each. */
+    std::optional<pair> pop_first_to(std::uint64_t key) {
+        congee_pair at = {0, 0};
+        return pair_if(C::pop_first_to(map_, key, &at), at);
+    }
+    std::optional<pair> pop_last_from(std::uint64_t key) {
+        congee_pair at = {0, 0};
+        return pair_if(C::pop_last_from(map_, key, &at), at);
+    }
     /* Removes the keys from first to last, one by one, and returns how many this call removed. Calls of other threads come in
      * between. */
     std::uint64_t erase_range(std::uint64_t first, std::uint64_t last) {
         std::uint64_t removed = 0;
         each(first, last, [&](std::uint64_t key, std::uint64_t) { removed += erase(key); });
+        return removed;
+    }
+    /* Calls the function with the key and the value of each pair, keys ascending, and removes the pairs for which the function
+     * returns false, one by one. If another thread changes the value in between, the function is called again with the new
+     * value. Returns how many pairs this call removed. No lock is held while the function runs. */
+    template <class F> std::uint64_t retain(F keep) {
+        std::uint64_t removed = 0;
+        each([&](std::uint64_t key, std::uint64_t value) {
+            int code = CONGEE_OTHER;
+            while (code == CONGEE_OTHER && !keep(key, value))
+                code = C::compare_remove(map_, key, value, &value);
+            removed += code == CONGEE_PRESENT;
+        });
         return removed;
     }
     /* Removes all pairs: of a shared map at one moment, and of a live map one by one. */
@@ -652,6 +721,18 @@ public:
                 f);
     }
     template <class F> void each_descending(F f) { each_descending(0, UINT64_MAX, f); }
+    /* Returns the keys from first to last, or the values of these keys, keys ascending. The call reads pages of 64 pairs, and
+     * calls of other threads come in between. */
+    std::vector<std::uint64_t> keys(std::uint64_t first = 0, std::uint64_t last = UINT64_MAX) {
+        std::vector<std::uint64_t> all;
+        each(first, last, [&all](std::uint64_t key, std::uint64_t) { all.push_back(key); });
+        return all;
+    }
+    std::vector<std::uint64_t> values(std::uint64_t first = 0, std::uint64_t last = UINT64_MAX) {
+        std::vector<std::uint64_t> all;
+        each(first, last, [&all](std::uint64_t, std::uint64_t value) { all.push_back(value); });
+        return all;
+    }
     /* Inserts the pairs whose keys are absent, one by one. Calls of other threads come in between. */
     template <class I, class = typename std::iterator_traits<I>::iterator_category> void insert(I first, I last) {
         for (; first != last; ++first)

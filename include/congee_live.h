@@ -933,6 +933,31 @@ static inline uint64_t congee_live_remove_range_inclusive(struct congee_live *ma
     return removed;
 }
 
+/* Calls keep(pair, with) for each pair, keys ascending, and removes the pairs for which `keep` returns false, each at a
+ * moment of its own. Returns how many pairs this call removed. A pair is removed only with a value for which `keep`
+ * returned false: if another handle changes the value in between, `keep` is called again with the new value. So each
+ * key that is present throughout the call, and stays, had a value meanwhile for which `keep` returned true. A key that
+ * another handle inserts meanwhile may stay unasked. Nothing is locked while `keep` runs, so `keep` may take long, or
+ * call the map, by this handle too. The call is never out of memory. Reads pages of 64 pairs, and calls
+ * congee_live_compare_remove. While writers lock or change nodes on the way, the call yields and tries again. */
+static inline uint64_t congee_live_retain(struct congee_live *map, congee_predicate *keep, void *with) {
+    struct congee_pair page[64] = {{0, 0}};
+    uint64_t start = 0, removed = 0;
+    size_t n;
+    while ((n = congee_live_range_inclusive(map, start, UINT64_MAX, page, 64)) > 0) {
+        for (size_t i = 0; i < n; i++) {
+            int code = CONGEE_OTHER;
+            while (code == CONGEE_OTHER && !keep(page[i], with))
+                code = congee_live_compare_remove(map, page[i].key, page[i].value, &page[i].value);
+            removed += code == CONGEE_PRESENT;
+        }
+        if (n < 64 || page[63].key == UINT64_MAX)
+            break;
+        start = page[63].key + 1;
+    }
+    return removed;
+}
+
 /* Removes all pairs, one by one, keys ascending, each at a moment of its own. Each key that is present when the call
  * begins is removed meanwhile, by this call or by another handle. A key that another handle inserts meanwhile may stay.
  * While writers lock or change nodes on the way, the call yields and tries again. The call is never out of memory. The

@@ -23,6 +23,10 @@
  * call also comes after all calls that had ended before, by whatever handle. For handles that never met, only tests
  * show that. A call that returns CONGEE_BUSY or CONGEE_OOM isn't in the history.
  *
+ * congee_shared_compute, pops with a bound and calls of many pairs make several of the library's calls. Each of those
+ * is in the history by itself, also where the function returns CONGEE_BUSY after it, and calls of other handles come in
+ * between. What such a function does by them is tested, and no theorem states it.
+ *
  * The functions for use are plain C around the library's own, and are tested. Tested, and not proved, are also the
  * costs that a comment names, the locks and the memory that a call takes, and that the limit is the number that the map
  * was made with. No theorem states that a call is busy or out of memory only when it has to be.
@@ -698,6 +702,76 @@ static inline int congee_shared_pop_last(struct congee_shared *map, struct conge
     return 1;
 }
 
+/* Removes the pair with the least key, if that key is at most `key`: finds the pair as congee_shared_first does, and
+ * removes the key if its value is still the one found. Returns CONGEE_PRESENT with the removed pair in *pair. Returns
+ * CONGEE_ABSENT, which leaves *pair unchanged, if at one moment no key was at most `key`. Each pair goes to one caller.
+ * The search and the removal are two calls, each at a moment of its own and in the history by itself. So no lesser key
+ * was present throughout the call, but a lesser key that another handle inserts in between stays. A pop is never out of
+ * memory. Returns CONGEE_BUSY, which leaves all pairs and *pair unchanged, if a lock of the call was taken at each of
+ * its tries, or if another handle removed or changed the found pair first. */
+static inline int congee_shared_try_pop_first_to(struct congee_shared *map, uint64_t key, struct congee_pair *pair) {
+    struct congee_pair it = {0, 0};
+    int code = congee_shared_try_first(map, &it);
+    if (code != CONGEE_PRESENT)
+        return code;
+    if (it.key > key)
+        return CONGEE_ABSENT;
+    if (congee_shared_try_compare_remove(map, it.key, it.value, NULL) != CONGEE_PRESENT)
+        return CONGEE_BUSY;
+    if (pair)
+        *pair = it;
+    return CONGEE_PRESENT;
+}
+
+/* Removes the pair with the least key, if that key is at most `key`: finds the pair as congee_shared_first does, and
+ * removes the key if its value is still the one found. Returns CONGEE_PRESENT with the removed pair in *pair. Returns
+ * CONGEE_ABSENT, which leaves *pair unchanged, if at one moment no key was at most `key`. Each pair goes to one caller.
+ * The search and the removal are two calls, each at a moment of its own and in the history by itself. So no lesser key
+ * was present throughout the call, but a lesser key that another handle inserts in between stays. A pop is never out of
+ * memory. While a lock of the call is taken, the call yields and tries again. If another handle removes or changes the
+ * found pair first, the call searches again. */
+static inline int congee_shared_pop_first_to(struct congee_shared *map, uint64_t key, struct congee_pair *pair) {
+    int code;
+    while ((code = congee_shared_try_pop_first_to(map, key, pair)) == CONGEE_BUSY)
+        CONGEE_YIELD();
+    return code;
+}
+
+/* Removes the pair with the greatest key, if that key is at least `key`: finds the pair as congee_shared_last does, and
+ * removes the key if its value is still the one found. Returns CONGEE_PRESENT with the removed pair in *pair. Returns
+ * CONGEE_ABSENT, which leaves *pair unchanged, if at one moment no key was at least `key`. Each pair goes to one
+ * caller. The search and the removal are two calls, each at a moment of its own and in the history by itself. So no
+ * greater key was present throughout the call, but a greater key that another handle inserts in between stays. A pop is
+ * never out of memory. Returns CONGEE_BUSY, which leaves all pairs and *pair unchanged, if a lock of the call was taken
+ * at each of its tries, or if another handle removed or changed the found pair first. */
+static inline int congee_shared_try_pop_last_from(struct congee_shared *map, uint64_t key, struct congee_pair *pair) {
+    struct congee_pair it = {0, 0};
+    int code = congee_shared_try_last(map, &it);
+    if (code != CONGEE_PRESENT)
+        return code;
+    if (it.key < key)
+        return CONGEE_ABSENT;
+    if (congee_shared_try_compare_remove(map, it.key, it.value, NULL) != CONGEE_PRESENT)
+        return CONGEE_BUSY;
+    if (pair)
+        *pair = it;
+    return CONGEE_PRESENT;
+}
+
+/* Removes the pair with the greatest key, if that key is at least `key`: finds the pair as congee_shared_last does, and
+ * removes the key if its value is still the one found. Returns CONGEE_PRESENT with the removed pair in *pair. Returns
+ * CONGEE_ABSENT, which leaves *pair unchanged, if at one moment no key was at least `key`. Each pair goes to one
+ * caller. The search and the removal are two calls, each at a moment of its own and in the history by itself. So no
+ * greater key was present throughout the call, but a greater key that another handle inserts in between stays. A pop is
+ * never out of memory. While a lock of the call is taken, the call yields and tries again. If another handle removes or
+ * changes the found pair first, the call searches again. */
+static inline int congee_shared_pop_last_from(struct congee_shared *map, uint64_t key, struct congee_pair *pair) {
+    int code;
+    while ((code = congee_shared_try_pop_last_from(map, key, pair)) == CONGEE_BUSY)
+        CONGEE_YIELD();
+    return code;
+}
+
 /* -- Counts -- */
 
 /* Tests whether the map has no pair. Returns 1 for an empty map, and 0 for a map with a pair. Returns CONGEE_BUSY if a
@@ -886,6 +960,31 @@ static inline uint64_t congee_shared_remove_range_inclusive(struct congee_shared
         for (size_t i = 0; i < n; i++)
             removed += (uint64_t)congee_shared_remove(map, page[i].key, NULL);
         if (n < 64 || page[63].key == last)
+            break;
+        start = page[63].key + 1;
+    }
+    return removed;
+}
+
+/* Calls keep(pair, with) for each pair, keys ascending, and removes the pairs for which `keep` returns false, each at a
+ * moment of its own. Returns how many pairs this call removed. A pair is removed only with a value for which `keep`
+ * returned false: if another handle changes the value in between, `keep` is called again with the new value. So each
+ * key that is present throughout the call, and stays, had a value meanwhile for which `keep` returned true. A key that
+ * another handle inserts meanwhile may stay unasked. No lock is held while `keep` runs, so `keep` may take long, or
+ * call the map, by this handle too. The call is never out of memory. Reads pages of 64 pairs of one moment each, and
+ * calls congee_shared_compare_remove. While a lock is taken, the call yields and tries again. */
+static inline uint64_t congee_shared_retain(struct congee_shared *map, congee_predicate *keep, void *with) {
+    struct congee_pair page[64] = {{0, 0}};
+    uint64_t start = 0, removed = 0;
+    size_t n;
+    while ((n = congee_shared_range_inclusive(map, start, UINT64_MAX, page, 64)) > 0) {
+        for (size_t i = 0; i < n; i++) {
+            int code = CONGEE_OTHER;
+            while (code == CONGEE_OTHER && !keep(page[i], with))
+                code = congee_shared_compare_remove(map, page[i].key, page[i].value, &page[i].value);
+            removed += code == CONGEE_PRESENT;
+        }
+        if (n < 64 || page[63].key == UINT64_MAX)
             break;
         start = page[63].key + 1;
     }

@@ -110,6 +110,23 @@ impl Frozen {
         }
     }
 
+    /// Copies the pairs into a map of their own, without a limit. Other readers go on. Returns [`OutOfMemory`] if there
+    /// is no memory for the copy.
+    ///
+    /// ```
+    /// # fn main() -> Result<(), proved_congee::OutOfMemory> {
+    /// let frozen = proved_congee::Map::try_from_iter([(5, 50), (7, 70)])?.freeze()?;
+    /// let mut copy = frozen.snapshot()?;
+    /// assert_eq!(copy.remove(5), Some(50));
+    /// assert!(frozen.contains_key(5) && copy.iter().eq([(7, 70)]));
+    /// # Ok(())
+    /// # }
+    /// ```
+    #[doc(alias = "to_owned")]
+    pub fn snapshot(&self) -> Result<Map, OutOfMemory> {
+        Map::try_from_iter(self)
+    }
+
     /// Returns the value at the key, or `None` if the key is absent.
     ///
     /// ```

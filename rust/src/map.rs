@@ -492,6 +492,40 @@ impl Map {
         self.pair(|handle, pair| unsafe { congee_c_pop_last(handle, pair) })
     }
 
+    /// Removes the pair with the least key, if that key is at most `key`, and returns the pair, or `None` if the map
+    /// has no such pair. A pop never fails.
+    ///
+    /// ```
+    /// # fn main() -> Result<(), proved_congee::OutOfMemory> {
+    /// let mut map = proved_congee::Map::try_from_iter([(5, 50), (7, 70), (9, 90)])?;
+    /// assert_eq!((map.pop_first_to(6), map.pop_first_to(6)), (Some((5, 50)), None));
+    /// # Ok(())
+    /// # }
+    /// ```
+    pub fn pop_first_to(&mut self, key: u64) -> Option<(u64, u64)> {
+        match self.first() {
+            Some((found, _)) if found <= key => self.pop_first(),
+            _ => None,
+        }
+    }
+
+    /// Removes the pair with the greatest key, if that key is at least `key`, and returns the pair, or `None` if the
+    /// map has no such pair. A pop never fails.
+    ///
+    /// ```
+    /// # fn main() -> Result<(), proved_congee::OutOfMemory> {
+    /// let mut map = proved_congee::Map::try_from_iter([(5, 50), (7, 70), (9, 90)])?;
+    /// assert_eq!((map.pop_last_from(8), map.pop_last_from(8)), (Some((9, 90)), None));
+    /// # Ok(())
+    /// # }
+    /// ```
+    pub fn pop_last_from(&mut self, key: u64) -> Option<(u64, u64)> {
+        match self.last() {
+            Some((found, _)) if found >= key => self.pop_last(),
+            _ => None,
+        }
+    }
+
     /// Removes all pairs, and returns the memory of their nodes. Never fails. If there is no memory for a new root, the
     /// call reads one path for each pair.
     ///

@@ -1089,6 +1089,94 @@ impl Guard {
         self.pair(|handle, pair| unsafe { congee_c_shared_pop_last(handle, pair) })
     }
 
+    /// Removes the pair with the least key, if that key is at most `key`, and returns the pair. Returns `None` if at
+    /// one moment no key was at most `key`. Each pair goes to one caller. The pair was found by
+    /// [`first`](Guard::first), and removed at a later moment, at which the key still had this value. So no lesser key
+    /// was present throughout the call, but a lesser key that another call inserts in between stays. A pop is never out
+    /// of memory. While other calls have the lock, the call yields and tries again. If another call removes or changes
+    /// the found pair first, the call searches again.
+    ///
+    /// ```
+    /// # fn main() -> Result<(), Box<dyn std::error::Error>> {
+    /// let guard = proved_congee::SharedMap::new()?.pin()?;
+    /// guard.extend([(5, 50), (7, 70), (9, 90)])?;
+    /// assert_eq!((guard.pop_first_to(6), guard.pop_first_to(6)), (Some((5, 50)), None));
+    /// # Ok(())
+    /// # }
+    /// ```
+    pub fn pop_first_to(&self, key: u64) -> Option<(u64, u64)> {
+        waiting(|| self.try_pop_first_to(key))
+    }
+
+    /// Removes the pair with the least key, if that key is at most `key`, and returns the pair. Returns `None` if at
+    /// one moment no key was at most `key`. Each pair goes to one caller. The pair was found by
+    /// [`first`](Guard::first), and removed at a later moment, at which the key still had this value. So no lesser key
+    /// was present throughout the call, but a lesser key that another call inserts in between stays. A pop is never out
+    /// of memory. Doesn't wait: returns [`Busy`], with no pair changed, if a lock of the call was taken at each of a
+    /// bounded number of tries, or if another call removed or changed the found pair first.
+    ///
+    /// ```
+    /// # fn main() -> Result<(), Box<dyn std::error::Error>> {
+    /// let guard = proved_congee::SharedMap::new()?.pin()?;
+    /// guard.extend([(5, 50), (7, 70), (9, 90)])?;
+    /// assert_eq!(guard.try_pop_first_to(6)?, Some((5, 50)));
+    /// assert_eq!(guard.try_pop_first_to(6)?, None);
+    /// # Ok(())
+    /// # }
+    /// ```
+    pub fn try_pop_first_to(&self, key: u64) -> Result<Option<(u64, u64)>, Busy> {
+        let found = self.try_first()?;
+        self.pop_found(found.filter(|pair| pair.0 <= key))
+    }
+
+    /// Removes the pair with the greatest key, if that key is at least `key`, and returns the pair. Returns `None` if
+    /// at one moment no key was at least `key`. Each pair goes to one caller. The pair was found by
+    /// [`last`](Guard::last), and removed at a later moment, at which the key still had this value. So no greater key
+    /// was present throughout the call, but a greater key that another call inserts in between stays. A pop is never
+    /// out of memory. While other calls have the lock, the call yields and tries again. If another call removes or
+    /// changes the found pair first, the call searches again.
+    ///
+    /// ```
+    /// # fn main() -> Result<(), Box<dyn std::error::Error>> {
+    /// let guard = proved_congee::SharedMap::new()?.pin()?;
+    /// guard.extend([(5, 50), (7, 70), (9, 90)])?;
+    /// assert_eq!((guard.pop_last_from(8), guard.pop_last_from(8)), (Some((9, 90)), None));
+    /// # Ok(())
+    /// # }
+    /// ```
+    pub fn pop_last_from(&self, key: u64) -> Option<(u64, u64)> {
+        waiting(|| self.try_pop_last_from(key))
+    }
+
+    /// Removes the pair with the greatest key, if that key is at least `key`, and returns the pair. Returns `None` if
+    /// at one moment no key was at least `key`. Each pair goes to one caller. The pair was found by
+    /// [`last`](Guard::last), and removed at a later moment, at which the key still had this value. So no greater key
+    /// was present throughout the call, but a greater key that another call inserts in between stays. A pop is never
+    /// out of memory. Doesn't wait: returns [`Busy`], with no pair changed, if a lock of the call was taken at each of
+    /// a bounded number of tries, or if another call removed or changed the found pair first.
+    ///
+    /// ```
+    /// # fn main() -> Result<(), Box<dyn std::error::Error>> {
+    /// let guard = proved_congee::SharedMap::new()?.pin()?;
+    /// guard.extend([(5, 50), (7, 70), (9, 90)])?;
+    /// assert_eq!(guard.try_pop_last_from(8)?, Some((9, 90)));
+    /// assert_eq!(guard.try_pop_last_from(8)?, None);
+    /// # Ok(())
+    /// # }
+    /// ```
+    pub fn try_pop_last_from(&self, key: u64) -> Result<Option<(u64, u64)>, Busy> {
+        let found = self.try_last()?;
+        self.pop_found(found.filter(|pair| pair.0 >= key))
+    }
+
+    // Removes a pair that was found, unless another call has removed or changed the pair since.
+    fn pop_found(&self, found: Option<(u64, u64)>) -> Result<Option<(u64, u64)>, Busy> {
+        if let Some((key, value)) = found {
+            self.try_compare_remove(key, value)?.map_err(|_| Busy)?;
+        }
+        Ok(found)
+    }
+
     /// Removes the key, and returns the removed value, or `None` if the key was absent. A removal is never out of memory.
     /// While other calls have the lock, the call yields and tries again.
     ///

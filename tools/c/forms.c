@@ -1,6 +1,6 @@
 /* Calls that all forms of the map have, by one table of keys and answers for a map with one owner, a map under one lock, a map
  * in shards, and a live map: changes by a function, loops downwards, removals of a range, limits, copies. Copies are also
- * made with each request for memory refused in turn. A reader has the loops. Linked with --wrap for malloc, realloc and free. */
+ * made with each request for memory refused in turn. A reader has the loops and the copies. Linked with --wrap for malloc, realloc and free. */
 #include "congee.h"
 #include <inttypes.h>
 #include <stdio.h>
@@ -93,6 +93,7 @@ CALLS_OF_ALL(live)
 CALL(shared, int, try_compute, (void *it, uint64_t key, congee_updater *f, void *with, uint64_t *old), it, key, f, with, old)
 CALL(live, int, try_compute, (void *it, uint64_t key, congee_updater *f, void *with, uint64_t *old), it, key, f, with, old)
 CALL(shared, int, try_limit, (void *it, uint64_t *bytes), it, bytes)
+CALL(owned, int, snapshot, (void *it, struct congee **out), it, out)
 CALL(shared, int, snapshot, (void *it, struct congee **out), it, out)
 CALL(live, int, snapshot, (void *it, struct congee **out), it, out)
 CALL(shared, int, snapshot_frozen, (void *it, struct congee_frozen **out), it, out)
@@ -117,7 +118,7 @@ MAKE(live, struct congee_live, congee_live_new(&it), congee_live_new_with_limit(
     ENTRIES(shared), .try_compute = shared_try_compute, .try_limit = shared_try_limit, .snapshot = shared_snapshot,         \
         .snapshot_frozen = shared_snapshot_frozen
 static const struct form forms[] = {
-    {"a map with one owner", .make = owned_make, ENTRIES(owned), .least = 2104},
+    {"a map with one owner", .make = owned_make, ENTRIES(owned), .snapshot = owned_snapshot, .least = 2104},
     {"a map under one lock", .make = shared_make, SHARED_ENTRIES, .least = 2104},
     {"a map in shards", .make = sharded_make, SHARED_ENTRIES, .least = 64 * 2104},
     {"a live map", .make = live_make, ENTRIES(live), .try_compute = live_try_compute, .snapshot = live_snapshot,
@@ -381,12 +382,68 @@ static void call_copies(void) {
         need(form->insert(map, 1, 11, NULL) == CONGEE_ABSENT && congee_insert(copy, 2, 22, NULL) == CONGEE_ABSENT, "new keys");
         need(congee_get(copy, 1, &value) == CONGEE_ABSENT && form->get(map, 2, &value) == CONGEE_ABSENT, "two maps");
         need(congee_freeze(&copy, &reader) == CONGEE_DONE && congee_frozen_get(reader, 2, &value) == CONGEE_PRESENT, "a reader");
+        /* (a reader's copy, too) */
+        struct congee *again = NULL;
+        struct beside copied = {map, 0};
+        need(congee_frozen_snapshot(reader, &again) == CONGEE_DONE && congee_count(again) == n + 1, "a copy of a reader");
+        need(congee_remove(again, 2, &value) == CONGEE_PRESENT && value == 22 && congee_frozen_count(reader) == n + 1, "apart");
+        congee_each(again, 0, UINT64_MAX, is_in_map, &copied);
+        need(copied.pairs == n && congee_limit(again) == UINT64_MAX, "the pairs of a reader's copy");
+        congee_free(again);
         congee_frozen_free(reader);
+        if (!form->snapshot_frozen) {
+            form->free(map);
+            continue;
+        }
         need(form->snapshot_frozen(map, &reader) == CONGEE_DONE && congee_frozen_count(reader) == n + 1, "a frozen copy");
         need(congee_thaw(&reader, &copy) == 1 && congee_count(copy) == n + 1, "a frozen copy that is thawed");
         congee_free(copy);
         form->free(map);
     }
+}
+
+/* The same of the copies of a reader, of a map that is freed afterwards. */
+static void refuse_readers_copies(struct congee *map) {
+    struct congee_frozen *reader;
+    struct congee *copy;
+    need(congee_freeze(&map, &reader) == CONGEE_DONE, "a reader");
+    long granted = 0, before = live;
+    for (;; granted++) {
+        copy = (struct congee *)&before;
+        left = granted;
+        int code = congee_frozen_snapshot(reader, &copy);
+        left = -1;
+        if (code == CONGEE_DONE)
+            break;
+        need(code == CONGEE_OOM && copy == NULL, "a reader's copy without memory");
+        need(live == before && congee_frozen_count(reader) == MANY, "what a reader's refused copy leaves");
+    }
+    need(granted > 10 && congee_count(copy) == MANY, "a reader's copy with just enough memory");
+    congee_free(copy);
+    congee_frozen_free(reader);
+}
+
+/* A copy of a map with one owner has its limit. Near the limit there may be none, and none is left then. */
+static void copy_limits(void) {
+    struct congee *map, *copy;
+    long refused = 0;
+    for (uint64_t limit = 2104; limit < 12000; limit += 61) {
+        uint64_t stored = 0;
+        need(congee_new_with_limit(&map, limit) == CONGEE_DONE, "a map with a limit");
+        while (stored < 300 && congee_insert(map, stored % 7 * 1000 + stored / 7, stored, NULL) == CONGEE_ABSENT)
+            stored++;
+        long before = live;
+        copy = (struct congee *)&before;
+        if (congee_snapshot(map, &copy) == CONGEE_DONE) {
+            need(congee_limit(copy) == limit && congee_count(copy) == stored && congee_charged(copy) <= limit, "a limited copy");
+            congee_free(copy);
+        } else {
+            need(copy == NULL && live == before && congee_count(map) == stored, "what a copy past a limit leaves");
+            refused++;
+        }
+        congee_free(map);
+    }
+    need(refused > 0 && refused < 20, "few copies don't fit under the limit of a map that does");
 }
 
 /* Each request of a copy refused in turn, with all after it: the map is as it was, and no block is left. Returns how many. */
@@ -407,6 +464,12 @@ static long refuse_copies(void) {
         need(live == before && form->count(map) == MANY, "what a refused copy leaves");
     }
     need(congee_count(copy) == MANY, "a copy with just enough memory");
+    if (!form->snapshot_frozen) {
+        refuse_readers_copies(copy);
+        form->free(map);
+        need(granted > 10 && live == 0, "each request of a copy is refused, and no block is lost");
+        return granted;
+    }
     congee_free(copy);
     /* (a frozen one takes two blocks more) */
     struct congee_frozen *reader;
@@ -449,6 +512,7 @@ int main(void) {
     }
     form = forms;
     call_reader();
+    copy_limits();
     need(live == 0, "a block leaks");
     printf("calls of %d forms, %ld requests of copies refused\n", FORMS, refused);
     return 0;

@@ -518,6 +518,12 @@ static bool is_same(struct congee_pair a, struct congee_pair b) {
     return a.key == b.key && a.value == b.value;
 }
 
+static bool keep(struct congee_pair pair, void *with) {
+    uint64_t *sum = with;
+    *sum = 31 * *sum + (pair.key ^ pair.value);
+    return pair.value != 2;
+}
+
 /* Pops, and now and then a removal of many pairs. */
 static void remove_pairs(struct congee *map, struct congee_live *live, uint64_t key, uint64_t last, uint64_t *seed) {
     struct congee_pair a = {1, 2}, b = {1, 2};
@@ -525,9 +531,16 @@ static void remove_pairs(struct congee *map, struct congee_live *live, uint64_t 
     if (kind == 0) {
         congee_clear(map);
         congee_live_clear(live);
+    } else if (kind == 1) {
+        uint64_t one = 0, other = 0;
+        need(congee_retain(map, keep, &one) == congee_live_retain(live, keep, &other) && one == other, "retain");
     } else if (kind < 8) {
         need(congee_remove_range_inclusive(map, key, last) == congee_live_remove_range_inclusive(live, key, last),
              "a removal of many");
+    } else if (kind % 4 == 2) {
+        need(congee_pop_first_to(map, key, &a) == congee_live_pop_first_to(live, key, &b) && is_same(a, b), "pop_first_to");
+    } else if (kind % 4 == 3) {
+        need(congee_pop_last_from(map, key, &a) == congee_live_pop_last_from(live, key, &b) && is_same(a, b), "pop_last_from");
     } else if (kind % 2) {
         need(congee_pop_first(map, &a) == congee_live_pop_first(live, &b) && is_same(a, b), "pop_first");
     } else {

@@ -1,4 +1,5 @@
-/* congee_each and congee_frozen_each over maps of every length up to some pages, and congee_insert_many up to each limit. */
+/* congee_each, congee_frozen_each, congee_retain and pops with a bound over maps of every length up to some pages, and
+ * congee_insert_many up to each limit. */
 #include "congee.h"
 #include <inttypes.h>
 #include <stdio.h>
@@ -67,6 +68,42 @@ static void walk_all(uint64_t n) {
     congee_free(map);
 }
 
+/* What is left of a loop by which each pair is asked about once. */
+static bool keep(struct congee_pair pair, void *with) {
+    struct walk *walk = with;
+    need(pair.key == walk->next && pair.value == 10 * pair.key, "the next pair that is asked about");
+    walk->next = walk->next == walk->last ? UINT64_MAX : walk->next + 1;
+    need(congee_get(walk->map, pair.key, NULL) == 1, "a pair that is asked about is there");
+    return pair.key % 3 != walk->stop;
+}
+
+/* Removes the keys of one remainder, by a function, and then pops the rest up to a key, and down to it. */
+static void retain_and_pop(uint64_t n) {
+    struct congee *map = filled(n);
+    struct walk walk = {1, n, n % 4, map};
+    uint64_t gone = 0, middle = n / 2;
+    for (uint64_t key = 1; key <= n; key++)
+        gone += key % 3 == n % 4;
+    gone += UINT64_MAX % 3 == n % 4;
+    need(congee_retain(map, keep, &walk) == gone && congee_count(map) == n + 1 - gone, "how many pairs are removed");
+    for (uint64_t key = 1; key <= n; key++)
+        need(congee_get(map, key, NULL) == (key % 3 != n % 4), "which pairs are removed");
+    for (uint64_t key = 1; key <= middle; key++) {
+        struct congee_pair pair = {1, 2};
+        if (key % 3 != n % 4)
+            need(congee_pop_first_to(map, middle, &pair) == 1 && pair.key == key && pair.value == 10 * key, "a pop up to a key");
+    }
+    need(congee_pop_first_to(map, middle, NULL) == 0, "no pair up to a key");
+    congee_remove(map, UINT64_MAX, NULL);
+    for (uint64_t key = n; key > middle; key--) {
+        struct congee_pair pair = {1, 2};
+        if (key % 3 != n % 4)
+            need(congee_pop_last_from(map, middle, &pair) == 1 && pair.key == key && pair.value == 10 * key, "a pop down to a key");
+    }
+    need(congee_pop_last_from(map, 0, NULL) == 0 && congee_is_empty(map), "nothing is left");
+    congee_free(map);
+}
+
 /* Under each limit as many pairs go in as a loop of insertions puts in. */
 static uint64_t insert_up_to(uint64_t limit) {
     struct congee_pair pairs[MOST];
@@ -91,7 +128,7 @@ static uint64_t insert_up_to(uint64_t limit) {
 int main(void) {
     uint64_t refused = 0;
     for (uint64_t n = 1; n < MOST; n++)
-        walk_all(n);
+        walk_all(n), retain_and_pop(n);
     for (uint64_t limit = 2104; limit < 12000; limit += 61)
         refused += insert_up_to(limit) < MOST;
     need(refused > 20, "limits that refuse");

@@ -77,7 +77,7 @@ static void at_random(map &ours, std_map &theirs, unsigned calls) {
     std::mt19937_64 dice(7);
     for (unsigned i = 0; i < calls; i++) {
         std::uint64_t shift = dice() % 60, k = (dice() % 512) << shift, v = dice();
-        switch (dice() % 8) {
+        switch (dice() % 9) {
         case 0:
             CHECK(ours.insert_or_assign(k, v).second == theirs.insert_or_assign(k, v).second);
             break;
@@ -140,6 +140,41 @@ static void at_random(map &ours, std_map &theirs, unsigned calls) {
             CHECK(sum == sum_theirs && down == down_theirs);
             break;
         }
+        case 7: {
+            // (pops with a bound, and now and then copies of keys and values, and a removal by a function)
+            const std::uint64_t high = k + (dice() % 64 << shift);
+            auto up = theirs.begin();
+            if (v % 16 == 0) {
+                const bool is_there = up != theirs.end() && up->first <= k;
+                CHECK(ours.pop_first_to(k) == (is_there ? std::optional<congee_cpp::pair>(*up) : std::nullopt));
+                is_there ? void(theirs.erase(up)) : void();
+            } else if (v % 16 == 1) {
+                auto down = theirs.empty() ? theirs.end() : std::prev(theirs.end());
+                const bool is_there = down != theirs.end() && down->first >= k;
+                CHECK(ours.pop_last_from(k) == (is_there ? std::optional<congee_cpp::pair>(*down) : std::nullopt));
+                is_there ? void(theirs.erase(down)) : void();
+            } else if (v % 16 < 4) {
+                std::vector<std::uint64_t> keys, values;
+                for (auto it = theirs.lower_bound(k); it != theirs.end() && it->first <= high; ++it) {
+                    keys.push_back(it->first);
+                    values.push_back(it->second);
+                }
+                CHECK(ours.keys(k, high) == keys && ours.values(k, high) == values);
+                CHECK(ours.keys().size() == theirs.size() && ours.values(high).size() >= ours.keys(high, high).size());
+            } else if (v % 16 < 6) {
+                auto at = theirs.lower_bound(k);
+                CHECK((ours.below(k) == ours.end()) == (at == theirs.begin()));
+                CHECK(at == theirs.begin() || *ours.below(k) == congee_cpp::pair(*std::prev(at)));
+                CHECK(theirs.empty() ? ours.last() == ours.end() : *ours.last() == congee_cpp::pair(*theirs.rbegin()));
+            } else if (i % 512 == 0) {
+                std::size_t asked = 0, before = theirs.size();
+                for (auto it = theirs.begin(); it != theirs.end();)
+                    it = (it->first ^ it->second) % 8 ? std::next(it) : theirs.erase(it);
+                auto keep = [&asked](std::uint64_t key, std::uint64_t value) { return ++asked, (key ^ value) % 8 > 0; };
+                CHECK(ours.retain(keep) == before - theirs.size() && asked == before);
+            }
+            break;
+        }
         default: {
             auto it = theirs.find(k);
             CHECK(ours.contains(k) == (it != theirs.end()));
@@ -184,9 +219,44 @@ static void ranges() {
     map tight = map::with_limit(5000), moved = std::move(tight);
     CHECK(moved.usage() == congee_cpp::pair(2104, 5000));
     CHECK(moved.limit() == 5000 && moved.charged() == 2104 && tight.charged() == 0 && tight.erase_range(0, 9) == 0);
+    CHECK(!tight.pop_first_to(9) && !tight.pop_last_from(0) && tight.retain([](auto, auto) { return false; }) == 0);
+    CHECK(tight.keys().empty() && tight.values().empty() && tight.last() == tight.end() && tight.below(9) == tight.end());
+    tight.shrink_to_fit();
     CHECK(!tight.take(1) && !tight.compute(1, [](auto it) { return it; }) && tight.empty());
     std::uint64_t expected = 7;
     CHECK(!tight.compare_erase(1, expected) && expected == 7 && tight.fetch_add(1, 2) == 0 && tight.at(1) == 2);
+}
+
+// Keys, values, pops with a bound and a removal by a function, by hand.
+static void removals() {
+    map m{{5, 50}, {7, 70}, {9, 90}, {UINT64_MAX, 1}};
+    using numbers = std::vector<std::uint64_t>;
+    CHECK(m.keys() == (numbers{5, 7, 9, UINT64_MAX}) && m.values() == (numbers{50, 70, 90, 1}));
+    CHECK(m.keys(6, 9) == (numbers{7, 9}) && m.values(0, 5) == numbers{50} && m.keys(9, 6).empty());
+    CHECK(m.last()->first == UINT64_MAX && m.below(9)->second == 70 && m.below(5) == m.end());
+    CHECK(!m.pop_first_to(4) && m.pop_first_to(5) == congee_cpp::pair(5, 50) && !m.pop_first_to(6));
+    CHECK(m.pop_last_from(UINT64_MAX) == congee_cpp::pair(UINT64_MAX, 1) && !m.pop_last_from(10));
+    CHECK(m.pop_last_from(9) == congee_cpp::pair(9, 90) && m.size() == 1);
+    for (std::uint64_t key = 0; key < 1000; key++)
+        m[key] = key % 3;
+    std::uint64_t asked = 0;
+    CHECK(m.retain([&asked](std::uint64_t key, std::uint64_t value) {
+        CHECK(key == asked++ && value == key % 3);
+        return value == 1;
+    }) == 667);
+    CHECK(asked == 1000 && m.size() == 333 && m.keys(0, 9) == (numbers{1, 4, 7}));
+    m.erase_range(100, UINT64_MAX);
+    const std::uint64_t charged = m.charged();
+    m.shrink_to_fit();
+    CHECK(m.charged() == charged && m.size() == 33 && m.at(97) == 1);
+    const std::size_t most = m.keys().size();
+    bool is_thrown = false;
+    try {
+        m.retain([](std::uint64_t key, std::uint64_t) -> bool { return key < 50 ? false : throw std::out_of_range("50"); });
+    } catch (const std::out_of_range &) {
+        is_thrown = true;
+    }
+    CHECK(is_thrown && most == 33 && m.begin()->first == 52 && m.size() == 16);
 }
 
 static void moves() {
@@ -233,6 +303,34 @@ static void refusals() {
     CHECK(is_refused);
 }
 
+// What is changed while it is asked about is asked about again. So are the bounds of pops met.
+template <class M> static void asked_again(M &map) {
+    using numbers = std::vector<std::uint64_t>;
+    const std::uint64_t size = map.size();
+    M other = map;
+    numbers asked;
+    map.insert({{20, 1}, {21, 1}, {22, 1}, {23, 1}});
+    auto keep = [&](std::uint64_t key, std::uint64_t value) {
+        if (key < 20 || key > 23)
+            return true;
+        asked.push_back(10 * key + value);
+        if (value == 1 && key < 22)
+            other.insert_or_assign(key, 2);
+        if (key == 22)
+            CHECK(other.erase(22));
+        return key == 20 && value == 2;
+    };
+    CHECK(map.retain(keep) == 2 && map.get(20) == 2u && map.size() == size + 1);
+    CHECK(asked == (numbers{201, 202, 211, 212, 221, 231}));
+    CHECK(map.take(20) == 2u && map.size() == size);
+    const std::uint64_t least = map.first()->first, most = map.last()->first;
+    CHECK(most < UINT64_MAX && !map.pop_last_from(most + 1) && (least == 0 || !map.pop_first_to(least - 1)));
+    const auto first = map.pop_first_to(least), last = map.pop_last_from(most);
+    CHECK(first->first == least && last->first == most && map.size() == size - 2);
+    map.insert_or_assign(least, first->second);
+    map.insert_or_assign(most, last->second);
+}
+
 // Counts of four threads, each with a handle of its own, and what one handle returns.
 template <class M> static void in_threads(M counts) {
     std::vector<std::thread> threads;
@@ -269,6 +367,14 @@ template <class M> static void in_threads(M counts) {
     CHECK(down.size() == 309 && down.front() == std::uint64_t{9} << 40 && down.back() == 0);
     counts.each_descending(7, 6, [](std::uint64_t, std::uint64_t) { CHECK(false); });
     CHECK(counts.erase_range(10, 309) == 290 && counts.erase_range(10, 309) == 0 && counts.erase_range(9, 8) == 0);
+    CHECK(counts.keys(3, 5) == (std::vector<std::uint64_t>{3, 4, 5}) && counts.values(3, 5) == counts.keys(3, 5));
+    CHECK(counts.keys().size() == 19 && counts.values().back() == 4000 && counts.keys(5, 3).empty());
+    counts.insert({{10, 10}, {11, 11}});
+    CHECK(!counts.pop_last_from(std::uint64_t{10} << 40) && counts.size() == 21);
+    counts.retain([](std::uint64_t key, std::uint64_t) { return key != 10; });
+    CHECK(counts.retain([](std::uint64_t key, std::uint64_t value) { return key != 11 || value != 11; }) == 1);
+    CHECK(counts.size() == 19 && !counts.contains(10) && !counts.contains(11));
+    asked_again(counts);
     CHECK(counts.pop_first() == congee_cpp::pair(0, 0) && counts.pop_last()->first == std::uint64_t{9} << 40);
     CHECK(counts.size() == 17);
     map copy = counts.snapshot();
@@ -311,8 +417,12 @@ template <class M> static void pops_in_threads(M jobs, M counts) {
                 steps.compute(7, [](auto it) { return std::optional<std::uint64_t>(it.value_or(0) + 1); });
                 // (a live map may pass a pair that comes meanwhile)
                 std::optional<congee_cpp::pair> job;
-                while (!job)
-                    job = i % 2 ? own.pop_first() : own.pop_last();
+                for (unsigned tries = 0; !job; tries++)
+                    job = tries % 2  ? own.pop_first()
+                          : i % 4 == 0 ? own.pop_first_to(t << 40 | i)
+                          : i % 4 == 1 ? own.pop_last_from(t << 40)
+                          : i % 4 == 2 ? own.pop_first()
+                                       : own.pop_last();
                 popped++;
                 sum += job->second;
             }
@@ -330,6 +440,7 @@ int main() {
     at_random(ours, theirs, 200000);
     changes();
     ranges();
+    removals();
     moves();
     refusals();
     in_threads(live_map());

@@ -85,7 +85,7 @@ static void call_near(struct congee *map, struct congee_shared *shared, uint64_t
     struct congee_pair a = {99, 99}, b = {99, 99};
     bool waits = next(seed) % 2;
     int one, other;
-    switch (next(seed) % 8) {
+    switch (next(seed) % 10) {
     case 0:
         one = congee_first(map, &a);
         other = waits ? congee_shared_first(shared, &b) : congee_shared_try_first(shared, &b);
@@ -113,6 +113,14 @@ static void call_near(struct congee *map, struct congee_shared *shared, uint64_t
     case 6:
         one = congee_pop_first(map, &a);
         other = waits ? congee_shared_pop_first(shared, &b) : congee_shared_try_pop_first(shared, &b);
+        break;
+    case 7:
+        one = congee_pop_first_to(map, key, &a);
+        other = waits ? congee_shared_pop_first_to(shared, key, &b) : congee_shared_try_pop_first_to(shared, key, &b);
+        break;
+    case 8:
+        one = congee_pop_last_from(map, key, &a);
+        other = waits ? congee_shared_pop_last_from(shared, key, &b) : congee_shared_try_pop_last_from(shared, key, &b);
         break;
     default:
         one = congee_pop_last(map, &a);
@@ -191,6 +199,20 @@ static void call_each(struct congee *map, struct congee_shared *shared, uint64_t
     need(one.n == other.n && memcmp(one.pairs, other.pairs, one.n * sizeof *one.pairs) == 0, "the pairs of each");
 }
 
+/* What is asked about, and which values stay. */
+static bool keep(struct congee_pair pair, void *with) {
+    struct list *list = with;
+    list->pairs[list->n++] = pair;
+    return pair.value != 2;
+}
+
+static void retain(struct congee *map, struct congee_shared *shared) {
+    static struct list one, other;
+    one.n = other.n = 0;
+    need(congee_retain(map, keep, &one) == congee_shared_retain(shared, keep, &other), "retain");
+    need(one.n == other.n && memcmp(one.pairs, other.pairs, one.n * sizeof *one.pairs) == 0, "the pairs of retain");
+}
+
 static void insert_many(struct congee *map, struct congee_shared *shared, uint64_t *seed) {
     struct congee_pair pairs[40];
     for (int i = 0; i < 40; i++)
@@ -227,6 +249,8 @@ static uint64_t call_all(int calls, uint64_t limit) {
             call_each(map, shared, key);
         else if (next(&seed) % 8 == 0)
             insert_many(map, shared, &seed);
+        else if (next(&seed) % 512 == 0)
+            retain(map, shared);
         else if (next(&seed) % 1024 == 0)
             clear(map, shared, next(&seed) % 2);
         else

@@ -117,6 +117,10 @@ fn read_side_by_side(map: Map, plain: &BTreeMap<u64, u64>) -> Map {
                 assert!(own.keys().rev().eq(plain.keys().rev().copied()));
                 assert!(own.iter().all(|(key, value)| own.get(key) == Some(value)));
                 assert!(!own.contains_key(1) && own.len() == plain.len());
+                let mut copy = own.snapshot().unwrap();
+                assert!(copy.iter().eq(&own) && copy.limit() == u64::MAX);
+                copy.clear();
+                assert_eq!(own.len(), plain.len());
                 let pair = |(key, value): (&u64, &u64)| (*key, *value);
                 assert_eq!(own.first(), plain.first_key_value().map(pair));
                 assert_eq!(own.last(), plain.last_key_value().map(pair));
@@ -212,6 +216,14 @@ fn main() {
             }
             16 if value == 0 => assert_eq!(map.pop_first(), plain.pop_first()),
             16 if value == 1 => assert_eq!(map.pop_last(), plain.pop_last()),
+            16 if value == 2 => {
+                let wanted = plain.first_entry().filter(|it| *it.key() <= at);
+                assert_eq!(map.pop_first_to(at), wanted.map(|it| it.remove_entry()));
+            }
+            16 => {
+                let wanted = plain.last_entry().filter(|it| *it.key() >= at);
+                assert_eq!(map.pop_last_from(at), wanted.map(|it| it.remove_entry()));
+            }
             14 => {
                 let halved = |current: Option<u64>| current.map(|it| it / 2).filter(|it| *it > 0);
                 let wanted = plain.remove(&at);

@@ -36,7 +36,7 @@ fn range<K: Ord + Copy>(dice: &mut Dice, one: K, other: K) -> Option<(Bound<K>, 
 /// Calls that all three maps have.
 macro_rules! common {
     ($map:expr, $std:expr, $dice:expr, $key:expr, $other:expr, $value:expr) => {
-        match $dice.roll(27) {
+        match $dice.roll(29) {
             0..=4 => assert_eq!(
                 $map.insert($key, $value).unwrap(),
                 $std.insert($key, $value)
@@ -105,6 +105,16 @@ macro_rules! common {
                 assert!($map.values().eq($std.values().copied()));
             }
             26 => assert_eq!($map.usage(), ($map.charged(), $map.limit())),
+            27 => {
+                let wanted = $std.first_entry().filter(|it| *it.key() <= $key);
+                let wanted = wanted.map(|it| it.remove_entry());
+                assert_eq!($map.pop_first_to($key), wanted);
+            }
+            28 => {
+                let wanted = $std.last_entry().filter(|it| *it.key() >= $key);
+                let wanted = wanted.map(|it| it.remove_entry());
+                assert_eq!($map.pop_last_from($key), wanted);
+            }
             _ => {
                 if let Some(of) = range(&mut $dice, $key, $other) {
                     assert!($map.range(of).eq($std.range(of).map(copied)));

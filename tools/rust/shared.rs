@@ -4,6 +4,7 @@
 
 use proved_congee::{Busy, Guard, Map, OutOfMemory, Pair, SharedMap, TryError};
 use std::collections::BTreeMap;
+use std::sync::atomic::{AtomicBool, Ordering};
 use std::sync::OnceLock;
 use std::thread;
 
@@ -213,6 +214,22 @@ fn end(guard: &Guard, plain: &mut Plain, at: u64, seed: &mut u64) {
                 plain.remove(&key);
             }
         }
+        it if it % 8 == 6 => {
+            let wanted = plain.first_entry().filter(|it| *it.key() <= at);
+            let wanted = wanted.map(|it| it.remove_entry());
+            match it % 16 {
+                6 => assert_eq!(guard.pop_first_to(at), wanted),
+                _ => assert_eq!(guard.try_pop_first_to(at), Ok(wanted)),
+            }
+        }
+        it if it % 8 == 7 => {
+            let wanted = plain.last_entry().filter(|it| *it.key() >= at);
+            let wanted = wanted.map(|it| it.remove_entry());
+            match it % 16 {
+                7 => assert_eq!(guard.pop_last_from(at), wanted),
+                _ => assert_eq!(guard.try_pop_last_from(at), Ok(wanted)),
+            }
+        }
         it if it % 4 == 0 => assert_eq!(guard.pop_first(), plain.pop_first()),
         it if it % 4 == 1 => assert_eq!(guard.pop_last(), plain.pop_last()),
         it if it % 4 == 2 => assert_eq!(guard.try_pop_first(), Ok(plain.pop_first())),
@@ -336,6 +353,103 @@ fn copies_beside(map: SharedMap) -> Result<(), OutOfMemory> {
     Ok(())
 }
 
+/// Pops the keys up to a bound, or from it on, until none is found and no thread inserts any more.
+fn pops(guard: &Guard, inserting: &AtomicBool, up: bool) -> Vec<(u64, u64)> {
+    let mut got = Vec::new();
+    loop {
+        // (asked first: what was inserted before is there)
+        let may_come = inserting.load(Ordering::SeqCst);
+        let found = match (up, got.len() % 2) {
+            (true, 0) => Ok(guard.pop_first_to(31)),
+            (true, _) => guard.try_pop_first_to(31),
+            (false, 0) => Ok(guard.pop_last_from(31)),
+            (false, _) => guard.try_pop_last_from(31),
+        };
+        match found {
+            Ok(Some(pair)) => {
+                assert!(pair.0 == 31 || (pair.0 < 31) == up);
+                got.push(pair);
+            }
+            Ok(None) if !may_come => return got,
+            Ok(None) | Err(Busy) => thread::yield_now(),
+        }
+    }
+}
+
+/// Four threads pop with a bound, beside two that insert: each pair goes to one of them, and none is lost.
+fn each_pair_to_one(map: SharedMap) -> Result<(), OutOfMemory> {
+    let inserting = AtomicBool::new(true);
+    let mut got = thread::scope(|scope| {
+        let takers: Vec<_> = (0..4)
+            .map(|id| {
+                let (map, inserting) = (&map, &inserting);
+                scope.spawn(move || pops(&map.pin().unwrap(), inserting, id % 2 == 0))
+            })
+            .collect();
+        let makers: Vec<_> = (0..2)
+            .map(|id| {
+                let map = &map;
+                scope.spawn(move || {
+                    let (guard, mut seed) = (map.pin().unwrap(), id);
+                    let mut own = 0;
+                    while own < EACH / 10 {
+                        // (a key comes again, with another value)
+                        let at = next(&mut seed) % 64;
+                        match guard.insert_absent(at, own * 2 + id).unwrap() {
+                            None => own += 1,
+                            Some(_) => thread::yield_now(),
+                        }
+                    }
+                })
+            })
+            .collect();
+        makers
+            .into_iter()
+            .for_each(|it| it.join().expect("no maker panics"));
+        inserting.store(false, Ordering::SeqCst);
+        let got = takers
+            .into_iter()
+            .flat_map(|it| it.join().expect("no taker panics"));
+        got.collect::<Vec<_>>()
+    });
+    assert_eq!(got.len() as u64, EACH / 5);
+    // (each value was stored once)
+    got.sort_unstable_by_key(|pair| pair.1);
+    assert!(got.windows(2).all(|it| it[0].1 < it[1].1));
+    assert!(map.pin()?.is_empty());
+    Ok(())
+}
+
+/// Pops with a bound beside threads that insert and remove other keys: none passes a key that is there throughout.
+fn none_is_passed(map: SharedMap) -> Result<(), OutOfMemory> {
+    let (guard, stirring) = (map.pin()?, AtomicBool::new(true));
+    thread::scope(|scope| {
+        for id in 0..2 {
+            let (map, stirring) = (&map, &stirring);
+            scope.spawn(move || {
+                let (guard, mut seed) = (map.pin().unwrap(), id);
+                while stirring.load(Ordering::SeqCst) {
+                    let at = (next(&mut seed) % 1024) << 8;
+                    if at != 512 << 8 {
+                        guard.insert(at, id).unwrap();
+                        guard.remove(at);
+                    }
+                }
+            });
+        }
+        let mut found = Vec::new();
+        for _ in 0..500 {
+            guard.insert(512 << 8, 5)?;
+            found.push(guard.pop_first_to(512 << 8).map(|pair| pair.0 <= 512 << 8));
+            guard.insert(512 << 8, 5)?;
+            found.push(guard.pop_last_from(512 << 8).map(|pair| pair.0 >= 512 << 8));
+        }
+        stirring.store(false, Ordering::SeqCst);
+        assert!(found.iter().all(|it| *it == Some(true)));
+        Ok(())
+    })
+}
+
 /// A shared map may be in a static, and a thread may keep its guard.
 fn in_a_static() {
     static MAP: OnceLock<SharedMap> = OnceLock::new();
@@ -354,12 +468,19 @@ fn in_a_static() {
 }
 
 fn main() -> Result<(), OutOfMemory> {
-    against_btree(SharedMap::new()?, CALLS)?;
-    against_btree(SharedMap::sharded()?, FEWER)?;
+    // (with a word it makes the calls of threads alone, which may be busy)
+    if std::env::args().count() == 1 {
+        against_btree(SharedMap::new()?, CALLS)?;
+        against_btree(SharedMap::sharded()?, FEWER)?;
+    }
     side_by_side(SharedMap::new()?)?;
     side_by_side(SharedMap::sharded()?)?;
     copies_beside(SharedMap::new()?)?;
     copies_beside(SharedMap::sharded()?)?;
+    each_pair_to_one(SharedMap::new()?)?;
+    each_pair_to_one(SharedMap::sharded()?)?;
+    none_is_passed(SharedMap::new()?)?;
+    none_is_passed(SharedMap::sharded()?)?;
     in_a_static();
     println!(
         "{} calls by one thread, {} by {THREADS}",

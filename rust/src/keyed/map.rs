@@ -579,6 +579,40 @@ impl<K: Word, V: Word> OrdMap<K, V> {
         self.map.pop_last().map(pair)
     }
 
+    /// Removes the pair with the least key, if that key is at most `key`, and returns the pair, or `None` if the map
+    /// has no such pair. A pop never fails.
+    ///
+    /// ```
+    /// use proved_congee::keyed::OrdMap;
+    ///
+    /// # fn main() -> Result<(), proved_congee::OutOfMemory> {
+    /// let mut map = OrdMap::try_from([(-5, 'a'), (7, 'b'), (9, 'c')])?;
+    /// assert_eq!(map.pop_first_to(6), Some((-5, 'a')));
+    /// assert_eq!(map.pop_first_to(6), None);
+    /// # Ok(())
+    /// # }
+    /// ```
+    pub fn pop_first_to(&mut self, key: K) -> Option<(K, V)> {
+        self.map.pop_first_to(key.into_u64()).map(pair)
+    }
+
+    /// Removes the pair with the greatest key, if that key is at least `key`, and returns the pair, or `None` if the
+    /// map has no such pair. A pop never fails.
+    ///
+    /// ```
+    /// use proved_congee::keyed::OrdMap;
+    ///
+    /// # fn main() -> Result<(), proved_congee::OutOfMemory> {
+    /// let mut map = OrdMap::try_from([(-5, 'a'), (7, 'b'), (9, 'c')])?;
+    /// assert_eq!(map.pop_last_from(8), Some((9, 'c')));
+    /// assert_eq!(map.pop_last_from(8), None);
+    /// # Ok(())
+    /// # }
+    /// ```
+    pub fn pop_last_from(&mut self, key: K) -> Option<(K, V)> {
+        self.map.pop_last_from(key.into_u64()).map(pair)
+    }
+
     /// Calls `keep` with each pair, keys ascending, and removes the pairs for which `keep` returns false. Never fails. The
     /// pairs are read in pages of 64, and removed one by one.
     ///

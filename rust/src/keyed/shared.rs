@@ -651,6 +651,50 @@ impl<K: Word, V: Word> OrdGuard<K, V> {
         self.guard.pop_last().map(pair)
     }
 
+    /// Removes the pair with the least key, if that key is at most `key`, and returns the pair. Returns `None` if at
+    /// one moment no key was at most `key`. Each pair goes to one caller. The pair was found by
+    /// [`first`](OrdGuard::first), and removed at a later moment, at which the key still had this value. So no lesser
+    /// key was present throughout the call, but a lesser key that another call inserts in between stays. A pop is never
+    /// out of memory. While other calls have the lock, the call yields and tries again. If another call removes or
+    /// changes the found pair first, the call searches again.
+    ///
+    /// ```
+    /// use proved_congee::keyed::OrdSharedMap;
+    ///
+    /// # fn main() -> Result<(), Box<dyn std::error::Error>> {
+    /// let guard = OrdSharedMap::<i32, char>::new()?.pin()?;
+    /// guard.extend([(-5, 'a'), (7, 'b'), (9, 'c')])?;
+    /// assert_eq!(guard.pop_first_to(6), Some((-5, 'a')));
+    /// assert_eq!(guard.pop_first_to(6), None);
+    /// # Ok(())
+    /// # }
+    /// ```
+    pub fn pop_first_to(&self, key: K) -> Option<(K, V)> {
+        self.guard.pop_first_to(key.into_u64()).map(pair)
+    }
+
+    /// Removes the pair with the greatest key, if that key is at least `key`, and returns the pair. Returns `None` if
+    /// at one moment no key was at least `key`. Each pair goes to one caller. The pair was found by
+    /// [`last`](OrdGuard::last), and removed at a later moment, at which the key still had this value. So no greater
+    /// key was present throughout the call, but a greater key that another call inserts in between stays. A pop is
+    /// never out of memory. While other calls have the lock, the call yields and tries again. If another call removes
+    /// or changes the found pair first, the call searches again.
+    ///
+    /// ```
+    /// use proved_congee::keyed::OrdSharedMap;
+    ///
+    /// # fn main() -> Result<(), Box<dyn std::error::Error>> {
+    /// let guard = OrdSharedMap::<i32, char>::new()?.pin()?;
+    /// guard.extend([(-5, 'a'), (7, 'b'), (9, 'c')])?;
+    /// assert_eq!(guard.pop_last_from(8), Some((9, 'c')));
+    /// assert_eq!(guard.pop_last_from(8), None);
+    /// # Ok(())
+    /// # }
+    /// ```
+    pub fn pop_last_from(&self, key: K) -> Option<(K, V)> {
+        self.guard.pop_last_from(key.into_u64()).map(pair)
+    }
+
     /// Removes the pairs whose keys are within the bounds, one by one, and returns how many pairs this call removed. Other
     /// calls come in between. While other calls have the lock, the call yields and tries again. Never out of memory.
     ///
