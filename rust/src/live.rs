@@ -1524,10 +1524,11 @@ impl LiveGuard {
         loops::snapshot(self)
     }
 
-    /// Calls `keep` with each pair, keys ascending, while nothing is locked. Each pair is read at a moment of its own, and
-    /// a key that is present throughout the call is among them. Removes the pairs for which `keep` returns false, unless
-    /// another call has changed the value meanwhile. Other calls come in between. While writers lock or change nodes on the
-    /// way, the call yields and tries again. Never out of memory.
+    /// Calls `keep` with each pair, keys ascending, while nothing is locked. Each pair is read at a moment of its own,
+    /// and a key that is present throughout the call is among them. Removes the pairs for which `keep` returns false.
+    /// If another call changes the value in between, `keep` is called again with the new value. So each key that is
+    /// present throughout the call, and stays, had a value meanwhile for which `keep` returned true. Other calls come
+    /// in between. While writers lock or change nodes on the way, the call yields and tries again. Never out of memory.
     ///
     /// ```
     /// # fn main() -> Result<(), Box<dyn std::error::Error>> {

@@ -159,9 +159,12 @@ pub(crate) fn snapshot(caller: &impl Caller) -> Result<Map, OutOfMemory> {
 }
 
 pub(crate) fn retain(caller: &impl Caller, mut keep: impl FnMut(u64, u64) -> bool) {
-    for (key, value) in range(caller, ..) {
-        if !keep(key, value) {
-            let _ = caller.compare_remove(key, value);
+    for (key, mut value) in range(caller, ..) {
+        while !keep(key, value) {
+            match caller.compare_remove(key, value) {
+                Err(Some(current)) => value = current,
+                _ => break,
+            }
         }
     }
 }

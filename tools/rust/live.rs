@@ -530,13 +530,30 @@ fn meddled() -> Result<(), OutOfMemory> {
     assert_eq!(once_called(&guard, 70, |_| None), Ok(None));
     assert_eq!(guard.insert(7, 4), Ok(Some(8)));
     guard.extend([(8, 80), (9, 90), (600, 6000)])?;
-    guard.retain(|key, _| {
-        if key == 8 {
-            assert_eq!(other.insert(8, 81), Ok(Some(80)));
+    let mut asked = Vec::new();
+    guard.retain(|key, value| {
+        asked.push((key, value));
+        match (key, value) {
+            // (the new value stays, a third one goes, what is gone isn't asked about again, and what is to stay isn't either)
+            (7, 4) => assert_eq!(other.insert(7, 5), Ok(Some(4))),
+            (8, 80..=81) => assert_eq!(other.insert(8, value + 1), Ok(Some(value))),
+            (9, _) => assert_eq!(other.remove(9), Some(90)),
+            (600, _) => assert_eq!(other.insert(600, 1), Ok(Some(6000))),
+            _ => {}
         }
-        key > 8
+        key == 600 || value == 5
     });
-    assert!(guard.iter().eq([(8, 81), (9, 90), (600, 6000)]));
+    assert!(guard.iter().eq([(7, 5), (600, 1)]));
+    let wanted = [
+        (7, 4),
+        (7, 5),
+        (8, 80),
+        (8, 81),
+        (8, 82),
+        (9, 90),
+        (600, 6000),
+    ];
+    assert_eq!(asked, wanted);
     Ok(())
 }
 

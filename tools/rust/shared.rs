@@ -4,7 +4,7 @@
 
 use proved_congee::{Busy, Guard, Map, OutOfMemory, Pair, SharedMap, TryError};
 use std::collections::BTreeMap;
-use std::sync::atomic::{AtomicBool, Ordering};
+use std::sync::atomic::{AtomicBool, AtomicU64, Ordering};
 use std::sync::OnceLock;
 use std::thread;
 
@@ -450,6 +450,72 @@ fn none_is_passed(map: SharedMap) -> Result<(), OutOfMemory> {
     })
 }
 
+/// Closures of `retain` during which another guard, or the same one, changes the key.
+fn asked_again(map: SharedMap) -> Result<(), OutOfMemory> {
+    let (guard, second) = (map.pin()?, map.pin()?);
+    for other in [&second, &guard] {
+        guard.clear();
+        guard.extend([(7, 4), (8, 80), (9, 90), (600, 6000)])?;
+        let mut asked = Vec::new();
+        guard.retain(|key, value| {
+            asked.push((key, value));
+            match (key, value) {
+                (7, 4) => assert_eq!(other.insert(7, 5), Ok(Some(4))),
+                (8, 80..=81) => assert_eq!(other.insert(8, value + 1), Ok(Some(value))),
+                (9, _) => assert_eq!(other.remove(9), Some(90)),
+                (600, _) => assert_eq!(other.insert(600, 1), Ok(Some(6000))),
+                _ => {}
+            }
+            key == 600 || value == 5
+        });
+        assert!(guard.iter().eq([(7, 5), (600, 1)]));
+        let wanted = [
+            (7, 4),
+            (7, 5),
+            (8, 80),
+            (8, 81),
+            (8, 82),
+            (9, 90),
+            (600, 6000),
+        ];
+        assert_eq!(asked, wanted);
+    }
+    Ok(())
+}
+
+/// Counters that are raised beside one that removes full ones by `retain`: no step is lost.
+fn no_step_is_lost(map: SharedMap) -> Result<(), OutOfMemory> {
+    let (guard, rounds) = (map.pin()?, AtomicU64::new(1));
+    let mut removed = 0;
+    thread::scope(|scope| {
+        for id in 0..3 {
+            let (map, rounds) = (&map, &rounds);
+            scope.spawn(move || {
+                let (guard, mut seed) = (map.pin().unwrap(), id);
+                // (so many for each round)
+                for step in 0..16 * 500 {
+                    while step >= 16 * rounds.load(Ordering::SeqCst) {
+                        thread::yield_now();
+                    }
+                    guard.add((next(&mut seed) % 8) << 8, 1).unwrap();
+                }
+            });
+        }
+        for _ in 0..500 {
+            // (what was answered about a key in the end is what was removed, since nobody else removes)
+            let mut last = BTreeMap::new();
+            guard.retain(|key, value| {
+                last.insert(key, value);
+                value < 3
+            });
+            removed += last.values().filter(|it| **it >= 3).sum::<u64>();
+            rounds.fetch_add(1, Ordering::SeqCst);
+        }
+    });
+    assert_eq!(removed + guard.values().sum::<u64>(), 3 * 16 * 500);
+    Ok(())
+}
+
 /// A shared map may be in a static, and a thread may keep its guard.
 fn in_a_static() {
     static MAP: OnceLock<SharedMap> = OnceLock::new();
@@ -481,6 +547,10 @@ fn main() -> Result<(), OutOfMemory> {
     each_pair_to_one(SharedMap::sharded()?)?;
     none_is_passed(SharedMap::new()?)?;
     none_is_passed(SharedMap::sharded()?)?;
+    asked_again(SharedMap::new()?)?;
+    asked_again(SharedMap::sharded()?)?;
+    no_step_is_lost(SharedMap::new()?)?;
+    no_step_is_lost(SharedMap::sharded()?)?;
     in_a_static();
     println!(
         "{} calls by one thread, {} by {THREADS}",

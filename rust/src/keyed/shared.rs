@@ -714,9 +714,10 @@ impl<K: Word, V: Word> OrdGuard<K, V> {
         self.guard.remove_range(bounds(of))
     }
 
-    /// Calls `keep` with each pair, keys ascending, outside of the lock. Removes the pairs for which `keep` returns false,
-    /// unless another call has changed the value meanwhile. Other calls come in between. While other calls have the lock,
-    /// the call yields and tries again. Never out of memory.
+    /// Calls `keep` with each pair, keys ascending, outside of the lock. Removes the pairs for which `keep` returns
+    /// false. If another call changes the value in between, `keep` is called again with the new value. So each key that
+    /// is present throughout the call, and stays, had a value meanwhile for which `keep` returned true. Other calls
+    /// come in between. While other calls have the lock, the call yields and tries again. Never out of memory.
     ///
     /// ```
     /// use proved_congee::keyed::OrdSharedMap;
