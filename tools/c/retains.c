@@ -10,6 +10,7 @@
  * A removal by a value begins late now and then, so that other threads come in after the search before it.
  *
  *     retains [STEPS] */
+#define _POSIX_C_SOURCE 200112L
 #include "congee_exports.h"
 #include <sched.h>
 
@@ -470,6 +471,8 @@ static void *stir(void *at) {
         uint64_t key = next(&seed) % 2 ? next(&seed) % 512 : 513 + (next(&seed) % 1024 << 40);
         form->insert(worker->map, key, worker->id, NULL);
         form->remove(worker->map, key, NULL);
+        /* (a thread that is stopped in a call would keep the lock) */
+        CONGEE_YIELD();
     }
     return NULL;
 }
@@ -492,17 +495,15 @@ static void none_is_passed(void) {
     form->free(map);
 }
 
-static _Atomic uint64_t rounds;
+static pthread_barrier_t rounds;
 
-/* Raises counters, so many for each round of the one that retains. A counter that was removed begins again. */
+/* Raises counters, so many in each round. A counter that was removed begins again. */
 static void *raise(void *at) {
     struct worker *worker = at;
     uint64_t seed = worker->id;
-    for (; atomic_load(&going); worker->count++) {
-        need(form->add(worker->map, spread(next(&seed) % KEYS), 1, NULL) != CONGEE_OOM, "memory");
-        while (atomic_load(&going) && worker->count >= 16 * atomic_load(&rounds))
-            CONGEE_YIELD();
-    }
+    while (pthread_barrier_wait(&rounds), atomic_load(&going))
+        for (int i = 0; i < 16; i++, worker->count++)
+            need(form->add(worker->map, spread(next(&seed) % KEYS), 1, NULL) != CONGEE_OOM, "memory");
     return NULL;
 }
 
@@ -540,18 +541,20 @@ static void no_step_is_lost(void) {
     uint64_t left = 0, raised = 0, removed = 0;
     struct sums sums = {0, 0, 0, 0, false};
     atomic_store(&going, true);
-    atomic_store(&rounds, 1);
+    need(pthread_barrier_init(&rounds, NULL, RAISERS + 1) == 0, "a barrier");
     for (uint64_t i = 0; i < RAISERS; i++)
         begin(&raisers[i], map, i, raise);
     while (removed < steps / 4) {
+        pthread_barrier_wait(&rounds);
         removed += form->retain(map, is_below_full, &sums);
         closes(&sums);
         need(removed == sums.keys, "each pair that isn't to stay is removed");
-        atomic_fetch_add(&rounds, 1);
     }
     atomic_store(&going, false);
+    pthread_barrier_wait(&rounds);
     for (uint64_t i = 0; i < RAISERS; i++)
         raised += end(&raisers[i]);
+    pthread_barrier_destroy(&rounds);
     need(form->each(map, 0, UINT64_MAX, add_value, &left) == 0, "all values");
     need(sums.values + left == raised, "no step is lost");
     form->free(map);
@@ -593,6 +596,7 @@ static void *disturb(void *at) {
         uint64_t key = next(&seed) % STAY * 256 + 1 + next(&seed) % 3;
         form->insert(worker->map, key, key, NULL);
         form->remove(worker->map, key, NULL);
+        CONGEE_YIELD();
     }
     return NULL;
 }
