@@ -37,7 +37,8 @@ impl<K: Word, P: Drop> PayloadCongee<K, P> {
         ensures busy { IfErr result (λ refused. refused.0 ≡ IsBusy
             → Tried (ChangedNone number) guard.old.tickets guard.new.tickets) }
         ensures memory { IfErr result (λ refused. refused.0 ≡ IsOutOfMemory
-            → (guard.new.tickets ≡ guard.old.tickets) ⊎ FoundNone guard.old.tickets number guard.new.tickets) }
+            → (guard.new.tickets ≡ guard.old.tickets)
+            ⊎ FoundNone guard.old.tickets number guard.new.tickets) }
         ensures back { IfErr result (λ refused. refused.1 ≡ payload) }
     {
         let ticket = self.issue(alloc, guard, payload)?;
@@ -113,13 +114,15 @@ impl<K: Word, P: Drop> PayloadCongee<K, P> {
         ensures reached { Reaches (CalledAt F.FnMut) f.old f.new }
         ensures absent { IfOk result (λ tried. IfSome tried (λ done. IfNone done
             (FindsAtLast (K.number key.now) guard.old None guard.new))) }
-        ensures made { IfOk result (λ tried. IfSome tried (λ done. IfSome done (λ lent. (old : P) × (new : Option P)
-            × (lent.value ≡ Some old) × EndsWithCall (CalledAt F.FnMut) f.old old new f.new
+        ensures made { IfOk result (λ tried. IfSome tried (λ done. IfSome done (λ lent.
+            (old : P) × (new : Option P) × (lent.value ≡ Some old) × EndsWithCall (CalledAt F.FnMut) f.old old new f.new
             × ReplacesPayload (K.number key.now) old new guard.old guard.new))) }
-        ensures table { IfOk result (λ tried. IfSome tried (λ done. IfSome done (λ lent. lent.table ≡ self.now.table))) }
+        ensures table { IfOk result (λ tried. IfSome tried (λ done.
+            IfSome done (λ lent. lent.table ≡ self.now.table))) }
         ensures again { IfOk result (λ tried. IfNone tried
             (Tried (ChangedNone (K.number key.now)) guard.old.tickets guard.new.tickets)) }
-        ensures refused { OnErr result (Tried (ChangedNone (K.number key.now)) guard.old.tickets guard.new.tickets) }
+        ensures refused { OnErr result (Tried (ChangedNone (K.number key.now))
+            guard.old.tickets guard.new.tickets) }
         ensures back { IfErr result (λ failed. (old : P)
             × EndsWithCall (CalledAt F.FnMut) f.old old failed.value f.new) }
     {
@@ -154,11 +157,12 @@ impl<K: Word, P: Drop> PayloadCongee<K, P> {
         ensures reached { Reaches (CalledAt F.FnMut) f.old f.new }
         ensures absent { IfOk result (λ done. IfNone done
             (FindsAtLast (K.number key.now) guard.old None guard.new)) }
-        ensures made { IfOk result (λ done. IfSome done (λ lent. (old : P) × (new : Option P)
-            × (lent.value ≡ Some old) × EndsWithCall (CalledAt F.FnMut) f.old old new f.new
+        ensures made { IfOk result (λ done. IfSome done (λ lent.
+            (old : P) × (new : Option P) × (lent.value ≡ Some old) × EndsWithCall (CalledAt F.FnMut) f.old old new f.new
             × ReplacesPayload (K.number key.now) old new guard.old guard.new)) }
         ensures table { IfOk result (λ done. IfSome done (λ lent. lent.table ≡ self.now.table)) }
-        ensures refused { OnErr result (Tried (ChangedNone (K.number key.now)) guard.old.tickets guard.new.tickets) }
+        ensures refused { OnErr result (Tried (ChangedNone (K.number key.now))
+            guard.old.tickets guard.new.tickets) }
         ensures back { IfErr result (λ failed. (old : P)
             × EndsWithCall (CalledAt F.FnMut) f.old old failed.value f.new) }
     {

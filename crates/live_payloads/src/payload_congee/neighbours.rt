@@ -4,16 +4,15 @@
 //! searches again.
 //!
 //! Tested in `test_live_slots`.
-ghost use Rattle.std.specs.Prelude.{◌≡◌, ◌+◌, ◌≤◌, ◌^◌, true, false, Some, IfOk, IfSome, IfNone, OnErr};
+ghost use Rattle.std.specs.Prelude.{◌≡◌, ◌+◌, ◌≤◌, ◌^◌, true, false, IfOk, IfSome, IfNone, OnErr};
 ghost use Rattle.live_scans.specs.Scans.{GaveUp};
 ghost use Rattle.live_payloads.specs.Payloads.{IsGuardOf, KnowsMore};
-ghost use Rattle.live_payloads.specs.Tries.{Tried, HasNeighbour, MissedNeighbour, FindsNeighbour, PopsPayload};
+ghost use Rattle.live_payloads.specs.Tries.{Tried, HasNeighbour, MissedNeighbour, FindsNeighbour};
 
 use super::PayloadCongee;
 use crate::guard::PayloadGuard;
 use crossbeam_utils::Backoff;
 use live_growth::map::{Busy, TRIES};
-use live_pops::waits::popped;
 use live_scans::{floors, scans};
 use live_slots::lent::Lent;
 use spec_map::traits::Word;
@@ -30,7 +29,8 @@ impl<K: Word, P: Drop> PayloadCongee<K, P> {
         requires map { IsGuardOf self.now guard.old }
         requires from { from ≤ 2 ^ 64 }
         ensures map { KnowsMore guard.old guard.new }
-        ensures found { IfOk result (λ pair. HasNeighbour up from guard.old.tickets pair guard.new.tickets) }
+        ensures found { IfOk result (λ pair.
+            HasNeighbour up from guard.old.tickets pair guard.new.tickets) }
         ensures busy { OnErr result (GaveUp guard.old.tickets guard.new.tickets) }
     {
         let map = &self.pool.map;
@@ -83,9 +83,12 @@ impl<K: Word, P: Drop> PayloadCongee<K, P> {
         requires map { IsGuardOf self.now guard.old }
         requires from { from ≤ 2 ^ 64 }
         ensures map { KnowsMore guard.old guard.new }
-        ensures found { IfOk result (λ found. FindsNeighbour K.of_number up from guard.old found guard.new) }
-        ensures table { IfOk result (λ found. IfSome found (λ both. both.1.table ≡ self.now.table)) }
-        ensures busy { OnErr result (Tried (MissedNeighbour up from) guard.old.tickets guard.new.tickets) }
+        ensures found { IfOk result (λ found.
+            FindsNeighbour K.of_number up from guard.old found guard.new) }
+        ensures table { IfOk result (λ found.
+            IfSome found (λ both. both.1.table ≡ self.now.table)) }
+        ensures busy { OnErr result (Tried (MissedNeighbour up from)
+            guard.old.tickets guard.new.tickets) }
     {
         for _ in 0..TRIES {
             if let Some(found) = self.find_once(guard, up, from)? {
@@ -130,7 +133,8 @@ impl<K: Word, P: Drop> PayloadCongee<K, P> {
         ensures map { KnowsMore guard.old guard.new }
         ensures found { IfOk result (λ found.
             FindsNeighbour K.of_number true (K.number key.now) guard.old found guard.new) }
-        ensures table { IfOk result (λ found. IfSome found (λ both. both.1.table ≡ self.now.table)) }
+        ensures table { IfOk result (λ found.
+            IfSome found (λ both. both.1.table ≡ self.now.table)) }
         ensures busy { OnErr result (Tried (MissedNeighbour true (K.number key.now))
             guard.old.tickets guard.new.tickets) }
     {
@@ -146,7 +150,8 @@ impl<K: Word, P: Drop> PayloadCongee<K, P> {
     ) -> Option<(K, Lent<'_, P>)>
         requires map { IsGuardOf self.now guard.old }
         ensures map { KnowsMore guard.old guard.new }
-        ensures found { FindsNeighbour K.of_number true (K.number key.now) guard.old result guard.new }
+        ensures found { FindsNeighbour K.of_number true (K.number key.now)
+            guard.old result guard.new }
         ensures table { IfSome result (λ both. both.1.table ≡ self.now.table) }
     {
         self.find(rt, guard, true, key.into_u64() as u128)
@@ -163,7 +168,8 @@ impl<K: Word, P: Drop> PayloadCongee<K, P> {
         ensures map { KnowsMore guard.old guard.new }
         ensures found { IfOk result (λ found.
             FindsNeighbour K.of_number true (K.number key.now + 1) guard.old found guard.new) }
-        ensures table { IfOk result (λ found. IfSome found (λ both. both.1.table ≡ self.now.table)) }
+        ensures table { IfOk result (λ found.
+            IfSome found (λ both. both.1.table ≡ self.now.table)) }
         ensures busy { OnErr result (Tried (MissedNeighbour true (K.number key.now + 1))
             guard.old.tickets guard.new.tickets) }
     {
@@ -179,7 +185,8 @@ impl<K: Word, P: Drop> PayloadCongee<K, P> {
     ) -> Option<(K, Lent<'_, P>)>
         requires map { IsGuardOf self.now guard.old }
         ensures map { KnowsMore guard.old guard.new }
-        ensures found { FindsNeighbour K.of_number true (K.number key.now + 1) guard.old result guard.new }
+        ensures found { FindsNeighbour K.of_number true (K.number key.now + 1)
+            guard.old result guard.new }
         ensures table { IfSome result (λ both. both.1.table ≡ self.now.table) }
     {
         self.find(rt, guard, true, key.into_u64() as u128 + 1)
@@ -196,7 +203,8 @@ impl<K: Word, P: Drop> PayloadCongee<K, P> {
         ensures map { KnowsMore guard.old guard.new }
         ensures found { IfOk result (λ found.
             FindsNeighbour K.of_number false (K.number key.now + 1) guard.old found guard.new) }
-        ensures table { IfOk result (λ found. IfSome found (λ both. both.1.table ≡ self.now.table)) }
+        ensures table { IfOk result (λ found.
+            IfSome found (λ both. both.1.table ≡ self.now.table)) }
         ensures busy { OnErr result (Tried (MissedNeighbour false (K.number key.now + 1))
             guard.old.tickets guard.new.tickets) }
     {
@@ -212,7 +220,8 @@ impl<K: Word, P: Drop> PayloadCongee<K, P> {
     ) -> Option<(K, Lent<'_, P>)>
         requires map { IsGuardOf self.now guard.old }
         ensures map { KnowsMore guard.old guard.new }
-        ensures found { FindsNeighbour K.of_number false (K.number key.now + 1) guard.old result guard.new }
+        ensures found { FindsNeighbour K.of_number false (K.number key.now + 1)
+            guard.old result guard.new }
         ensures table { IfSome result (λ both. both.1.table ≡ self.now.table) }
     {
         self.find(rt, guard, false, key.into_u64() as u128 + 1)
@@ -229,7 +238,8 @@ impl<K: Word, P: Drop> PayloadCongee<K, P> {
         ensures map { KnowsMore guard.old guard.new }
         ensures found { IfOk result (λ found.
             FindsNeighbour K.of_number false (K.number key.now) guard.old found guard.new) }
-        ensures table { IfOk result (λ found. IfSome found (λ both. both.1.table ≡ self.now.table)) }
+        ensures table { IfOk result (λ found.
+            IfSome found (λ both. both.1.table ≡ self.now.table)) }
         ensures busy { OnErr result (Tried (MissedNeighbour false (K.number key.now))
             guard.old.tickets guard.new.tickets) }
     {
@@ -245,7 +255,8 @@ impl<K: Word, P: Drop> PayloadCongee<K, P> {
     ) -> Option<(K, Lent<'_, P>)>
         requires map { IsGuardOf self.now guard.old }
         ensures map { KnowsMore guard.old guard.new }
-        ensures found { FindsNeighbour K.of_number false (K.number key.now) guard.old result guard.new }
+        ensures found { FindsNeighbour K.of_number false (K.number key.now)
+            guard.old result guard.new }
         ensures table { IfSome result (λ both. both.1.table ≡ self.now.table) }
     {
         self.find(rt, guard, false, key.into_u64() as u128)
@@ -258,7 +269,8 @@ impl<K: Word, P: Drop> PayloadCongee<K, P> {
         ensures map { KnowsMore guard.old guard.new }
         ensures found { IfOk result (λ found.
             FindsNeighbour K.of_number true 0 guard.old found guard.new) }
-        ensures table { IfOk result (λ found. IfSome found (λ both. both.1.table ≡ self.now.table)) }
+        ensures table { IfOk result (λ found.
+            IfSome found (λ both. both.1.table ≡ self.now.table)) }
         ensures busy { OnErr result (Tried (MissedNeighbour true 0)
             guard.old.tickets guard.new.tickets) }
     {
@@ -282,7 +294,8 @@ impl<K: Word, P: Drop> PayloadCongee<K, P> {
         ensures map { KnowsMore guard.old guard.new }
         ensures found { IfOk result (λ found.
             FindsNeighbour K.of_number false (2 ^ 64) guard.old found guard.new) }
-        ensures table { IfOk result (λ found. IfSome found (λ both. both.1.table ≡ self.now.table)) }
+        ensures table { IfOk result (λ found.
+            IfSome found (λ both. both.1.table ≡ self.now.table)) }
         ensures busy { OnErr result (Tried (MissedNeighbour false (2 ^ 64))
             guard.old.tickets guard.new.tickets) }
     {
