@@ -29,10 +29,13 @@ fn get_or_insert<R: Wait>(
     let Ok(one) = Arc::try_clone(owner) else {
         return Got::Refused;
     };
-    match map.get_or_insert(rt, alloc, guard, key, one) {
-        Ok((lent, None)) => Got::Added(**lent.get()),
-        Ok((lent, Some(back))) => Got::Found(**lent.get(), *back),
-        Err(_) => Got::Refused,
+    let Ok(both) = map.get_or_insert(rt, alloc, guard, key, one) else {
+        return Got::Refused;
+    };
+    let (lent, back) = both;
+    match back {
+        Some(back) => Got::Found(**lent.get(), *back),
+        None => Got::Added(**lent.get()),
     }
 }
 

@@ -31,6 +31,17 @@ fn is_it(found: Option<(u64, Lent<'_, Arc<u64>>)>, key: Option<u64>) -> bool {
     }
 }
 
+// The same of a call that gives up.
+fn is_tried<E: Drop>(
+    found: Result<Option<(u64, Lent<'_, Arc<u64>>)>, E>,
+    key: Option<u64>,
+) -> bool {
+    match found {
+        Ok(found) => is_it(found, key),
+        Err(_) => false,
+    }
+}
+
 // Inserts an owner of each number at its key.
 fn filled<R: Wait>(rt: &R, alloc: Global, map: &Map, guard: &mut Guard) -> bool
     requires { IsGuardOf map.now guard.old }
@@ -52,7 +63,7 @@ fn wrong_row<R: Wait>(rt: &R, map: &Map, guard: &mut Guard) -> usize
     requires { IsGuardOf map.now guard.old }
     ensures { IsGuardOf map.now guard.new }
 {
-    let mut at = 0;
+    let mut at = 0usize;
     for (key, ceiling, above, floor, below) in ROWS {
         let upwards = is_it(map.ceiling(rt, guard, &key), ceiling)
             && is_it(map.above(rt, guard, &key), above);
@@ -61,7 +72,7 @@ fn wrong_row<R: Wait>(rt: &R, map: &Map, guard: &mut Guard) -> usize
         if !upwards || !downwards {
             return at;
         }
-        at += 1;
+        at = at.wrapping_add(1);
     }
     at
 }
@@ -71,24 +82,16 @@ fn wrong_try(map: &Map, guard: &mut Guard) -> usize
     requires { IsGuardOf map.now guard.old }
     ensures { IsGuardOf map.now guard.new }
 {
-    let mut at = 0;
+    let mut at = 0usize;
     for (key, ceiling, above, floor, below) in ROWS {
-        let upwards = map
-            .try_ceiling(guard, &key)
-            .is_ok_and(|found| is_it(found, ceiling))
-            && map
-                .try_above(guard, &key)
-                .is_ok_and(|found| is_it(found, above));
-        let downwards = map
-            .try_floor(guard, &key)
-            .is_ok_and(|found| is_it(found, floor))
-            && map
-                .try_below(guard, &key)
-                .is_ok_and(|found| is_it(found, below));
+        let upwards = is_tried(map.try_ceiling(guard, &key), ceiling)
+            && is_tried(map.try_above(guard, &key), above);
+        let downwards = is_tried(map.try_floor(guard, &key), floor)
+            && is_tried(map.try_below(guard, &key), below);
         if !upwards || !downwards {
             return at;
         }
-        at += 1;
+        at = at.wrapping_add(1);
     }
     at
 }
@@ -104,8 +107,7 @@ fn are_ends<R: Wait>(
     ensures { IsGuardOf map.now guard.new }
 {
     let waiting = is_it(map.first(rt, guard), first) && is_it(map.last(rt, guard), last);
-    let tried = map.try_first(guard).is_ok_and(|found| is_it(found, first))
-        && map.try_last(guard).is_ok_and(|found| is_it(found, last));
+    let tried = is_tried(map.try_first(guard), first) && is_tried(map.try_last(guard), last);
     waiting && tried
 }
 

@@ -109,8 +109,10 @@ fn replaced<R: Wait>(
         Ok(before) => return before.is_some(),
         Err(failed) => drop(failed),
     }
-    map.compute_if_present(rt, alloc, guard, &key, &mut f)
-        .is_ok_and(|before| before.is_some())
+    match map.compute_if_present(rt, alloc, guard, &key, &mut f) {
+        Ok(before) => before.is_some(),
+        Err(_) => false,
+    }
 }
 
 // Hands an owner in at keys far from one another, and replaces it there: how many of them have it then.
