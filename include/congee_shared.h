@@ -731,10 +731,14 @@ static inline int congee_shared_try_pop_first_to(struct congee_shared *map, uint
  * memory. While a lock of the call is taken, the call yields and tries again. If another handle removes or changes the
  * found pair first, the call searches again. */
 static inline int congee_shared_pop_first_to(struct congee_shared *map, uint64_t key, struct congee_pair *pair) {
-    int code;
-    while ((code = congee_shared_try_pop_first_to(map, key, pair)) == CONGEE_BUSY)
-        CONGEE_YIELD();
-    return code;
+    struct congee_pair it = {0, 0};
+    do {
+        if (congee_shared_first(map, &it) == CONGEE_ABSENT || it.key > key)
+            return CONGEE_ABSENT;
+    } while (congee_shared_compare_remove(map, it.key, it.value, NULL) != CONGEE_PRESENT);
+    if (pair)
+        *pair = it;
+    return CONGEE_PRESENT;
 }
 
 /* Removes the pair with the greatest key, if that key is at least `key`: finds the pair as congee_shared_last does, and
@@ -766,10 +770,14 @@ static inline int congee_shared_try_pop_last_from(struct congee_shared *map, uin
  * never out of memory. While a lock of the call is taken, the call yields and tries again. If another handle removes or
  * changes the found pair first, the call searches again. */
 static inline int congee_shared_pop_last_from(struct congee_shared *map, uint64_t key, struct congee_pair *pair) {
-    int code;
-    while ((code = congee_shared_try_pop_last_from(map, key, pair)) == CONGEE_BUSY)
-        CONGEE_YIELD();
-    return code;
+    struct congee_pair it = {0, 0};
+    do {
+        if (congee_shared_last(map, &it) == CONGEE_ABSENT || it.key < key)
+            return CONGEE_ABSENT;
+    } while (congee_shared_compare_remove(map, it.key, it.value, NULL) != CONGEE_PRESENT);
+    if (pair)
+        *pair = it;
+    return CONGEE_PRESENT;
 }
 
 /* -- Counts -- */

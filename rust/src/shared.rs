@@ -1105,7 +1105,7 @@ impl Guard {
     /// # }
     /// ```
     pub fn pop_first_to(&self, key: u64) -> Option<(u64, u64)> {
-        waiting(|| self.try_pop_first_to(key))
+        self.pop_by(|| self.first().filter(|pair| pair.0 <= key))
     }
 
     /// Removes the pair with the least key, if that key is at most `key`, and returns the pair. Returns `None` if at
@@ -1145,7 +1145,7 @@ impl Guard {
     /// # }
     /// ```
     pub fn pop_last_from(&self, key: u64) -> Option<(u64, u64)> {
-        waiting(|| self.try_pop_last_from(key))
+        self.pop_by(|| self.last().filter(|pair| pair.0 >= key))
     }
 
     /// Removes the pair with the greatest key, if that key is at least `key`, and returns the pair. Returns `None` if
@@ -1167,6 +1167,16 @@ impl Guard {
     pub fn try_pop_last_from(&self, key: u64) -> Result<Option<(u64, u64)>, Busy> {
         let found = self.try_last()?;
         self.pop_found(found.filter(|pair| pair.0 >= key))
+    }
+
+    // Removes the pair that `find` returns, and searches again where another call removed or changed the pair first.
+    fn pop_by(&self, find: impl Fn() -> Option<(u64, u64)>) -> Option<(u64, u64)> {
+        loop {
+            let (key, value) = find()?;
+            if self.compare_remove(key, value).is_ok() {
+                return Some((key, value));
+            }
+        }
     }
 
     // Removes a pair that was found, unless another call has removed or changed the pair since.

@@ -522,13 +522,14 @@ fn in_a_static() {
     thread_local!(static GUARD: Guard = MAP.get().expect("it is made first").pin().unwrap());
     MAP.get_or_init(|| SharedMap::new().unwrap());
     thread::scope(|scope| {
-        for _ in 0..THREADS {
-            scope.spawn(|| {
-                for _ in 0..100 {
-                    assert!(GUARD.with(|it| it.add(7, 1)).is_ok());
-                }
-            });
-        }
+        let count = || {
+            for _ in 0..100 {
+                assert!(GUARD.with(|it| it.add(7, 1)).is_ok());
+            }
+        };
+        // (a scope doesn't wait until a thread has dropped its guard, and `join` does)
+        let all: Vec<_> = (0..THREADS).map(|_| scope.spawn(count)).collect();
+        all.into_iter().for_each(|it| it.join().unwrap());
     });
     assert_eq!(GUARD.with(|it| it.get(7)), Some(100 * THREADS));
 }
