@@ -260,7 +260,6 @@ WAITING = {
     "never busy": "the call waits for nobody",
     "closure": "the call makes several calls, and calls your function in between",
     "many pairs": "a call that gives up may have changed some pairs, or read a part",
-    "none": "the form lacks the call",
 }
 # Why a call for threads has no form with `try_`, as above.
 WHY_WAITS = (
@@ -374,7 +373,7 @@ def table():
     found += [f"- *{word}*: {meaning}\n" for word, meaning in WORDS.items()]
     found.append("\nThese calls also have a form with `try_` before the name, which doesn't wait:\n\n")
     rows = [(f"`{id_of(it)}`", *(tries_of(it, form) for form in THREADS)) for it in ROWS]
-    found += lines(("Call", *THREADS), grouped([[cell or "none" for cell in it] for it in rows if any(it[1:])]))
+    found += lines(("Call", *THREADS), grouped([it for it in rows if any(it[1:])]))
     found.append("\n")
     found += [f"- *{word}*: {meaning}\n" for word, meaning in WAITING.items()]
     found.append(f"\nThe typed maps of Rust (`keyed`) lack {', '.join(f'`{it}`' for it in UNTYPED)},\n")
