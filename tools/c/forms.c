@@ -402,7 +402,7 @@ static void call_copies(void) {
     }
 }
 
-/* The same of the copies of a reader, of a map that is freed afterwards. */
+/* Freezes a map, and refuses each request of a copy of the frozen map in turn: its pairs are as they were, and no block is left. */
 static void refuse_readers_copies(struct congee *map) {
     struct congee_frozen *reader;
     struct congee *copy;

@@ -61,7 +61,7 @@ fn a_pop_up_to_a_key_returns_the_least(rt: HostRuntime) -> Result<(), Fail> {
     Ok(())
 }
 
-// The same from a bound on.
+// Of these keys in turn: a bound, and the key that a pop from it on returns.
 const LAST: [(u64, Option<u64>); 7] = [
     (9001, None),
     (9000, Some(9000)),

@@ -31,7 +31,7 @@ fn is_it(found: Option<(u64, Lent<'_, Arc<u64>>)>, key: Option<u64>) -> bool {
     }
 }
 
-// The same of a call that gives up.
+// Whether a call that may be busy returned the pair with this key, and the owner of that number.
 fn is_tried<E: Drop>(
     found: Result<Option<(u64, Lent<'_, Arc<u64>>)>, E>,
     key: Option<u64>,
@@ -77,7 +77,7 @@ fn wrong_row<R: Wait>(rt: &R, map: &Map, guard: &mut Guard) -> usize
     at
 }
 
-// The same by the calls that give up.
+// The first row that the calls with `try_` answer otherwise, or how many rows there are.
 fn wrong_try(map: &Map, guard: &mut Guard) -> usize
     requires { IsGuardOf map.now guard.old }
     ensures { IsGuardOf map.now guard.new }
