@@ -3,9 +3,8 @@
 ghost use Rattle.std.specs.Prelude.{◌≡◌, IfOk};
 ghost use Rattle.example_live.specs.Callers.{HandedOver};
 
-use live_faces::live::{Congee, Guard, meet};
-use share_laws::laws::a_get_finds_what_was_inserted;
-use spec_map::error::OOMError;
+use congee_live::guard_laws::a_get_finds_what_was_inserted;
+use congee_live::{Congee, Guard, OOMError, meet};
 use std::alloc::Global;
 use std::sync::Wait;
 

@@ -4,7 +4,7 @@
 mod hand_over;
 
 use crate::hand_over::hand_over;
-use live_faces::live::Congee;
+use congee_live::Congee;
 use std::io::Write;
 use std::test::Fail;
 
