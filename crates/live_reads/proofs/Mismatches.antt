@@ -201,41 +201,58 @@ module _ (v : Seen) (b : Book) (words : List Name) (t name key height : ℕ) (f 
           subst (λ (z : Seen). Answers q.caller (got q None) v.client.seen z.client.seen) (sym h.2) g.answers,
         )
 
--- A NODE BELOW ONE THAT IS LOCKED
-module _ (v : Seen) (below number : ℕ) (bound : Option ℕ) (up_there : IsAbove v below number bound) (n : Sights v below) (v₂ : Seen) (b₂ : Book) (words₂ : List Name) (t₂ : ℕ) (keeps₂ : Keeps v v₂) (client₂ : v₂.client ≡ v.client) (opened : HasOpened v₂ b₂ words₂ t₂ n.spot)
-    (v₃ : Seen) (rest₃ : without_reads v₃ ≡ without_reads v₂) (k : ℕ) (at_k : (place_at n.spot).key ≡ k) where
-  placed_b : IsIn (place_at n.spot) v₂.places
-  placed_b = keeps₂.places (place_at n.spot) n.placed
+-- A NODE BELOW ONE THAT IS LOCKED, of which something was read since it was opened
+pub record Lower (v : Seen) (below number : ℕ) (bound : Option ℕ) (v₃ : Seen) (t k : ℕ) : Type 0 where
+  pub above : IsAbove v below number bound
+  pub names : Sights v below
+  pub at_open : Seen
+  pub keeps : Keeps v at_open
+  pub client : at_open.client ≡ v.client
+  pub book : Book
+  pub words : List Name
+  pub opened : HasOpened at_open book words t names.spot
+  pub rest : without_reads v₃ ≡ without_reads at_open
+  pub first : (place_at names.spot).key ≡ k
+
+module _ {v : Seen} {below number : ℕ} {bound : Option ℕ} {v₃ : Seen} {t k : ℕ} (l : Lower v below number bound v₃ t k) where
+  abbrev n : Sights v below
+  n = l.names
+
+  placed_b : IsIn (place_at n.spot) l.at_open.places
+  placed_b = l.keeps.places (place_at n.spot) n.placed
 
   abbrev saw_b : List (ℕ × ℕ)
   saw_b = last_saw v₃.reads
 
-  pub may_part : (id m : ℕ) → t₂ ≡ 4 * m → MayCheck v₃ k IsMap id (LearnsBelow number bound) t₂
-  may_part id m even = subst (λ (z : ℕ × Option ℕ). MayCheck v₃ k IsMap id (LearnsBelow z.0 z.1) t₂) (λ i. (sym up_there.numbered i, sym up_there.held i))
-      (may_check_open v₂ b₂ words₂ t₂ n.spot placed_b opened v₃ rest₃ k at_k (LearnsBelow up_there.spot.number None) id
-      (node_below_own id v₂.client n.spot (keeps₂.met n.spot n.met) t₂ saw_b m even (read n.spot.number t₂ saw_b ∷ opened.before)
-      up_there.spot up_there.content (subst (λ (z : View). IsIn (locked up_there.spot up_there.content) z.own) (sym client₂) up_there.own) up_there.tall up_there.byte up_there.low up_there.child up_there.finds (λ s e. up_there.spells s e ∙ n.named)))
+  pub may_part : (id m : ℕ) → t ≡ 4 * m → MayCheck v₃ k IsMap id (LearnsBelow number bound) t
+  may_part id m even = subst (λ (z : ℕ × Option ℕ). MayCheck v₃ k IsMap id (LearnsBelow z.0 z.1) t) (λ i. (sym l.above.numbered i, sym l.above.held i))
+      (may_check_open l.at_open l.book l.words t n.spot placed_b l.opened v₃ l.rest k l.first (LearnsBelow l.above.spot.number None) id
+      (node_below_own id l.at_open.client n.spot (l.keeps.met n.spot n.met) t saw_b m even (read n.spot.number t saw_b ∷ l.opened.before)
+      l.above.spot l.above.content (subst (λ (z : View). IsIn (locked l.above.spot l.above.content) z.own) (sym l.client) l.above.own) l.above.tall l.above.byte l.above.low l.above.child l.above.finds (λ s e. l.above.spells s e ∙ n.named)))
 
   module _ (w : Seen) (m : ℕ) (told : Checks (LearnsBelow number bound) (reads k) v₃ m none_joined w) where
-    pub part_missed : m ≢ t₂ → Keeps v₂ w × (w.client ≡ v₂.client)
-    part_missed ne = open_missed v₂ b₂ words₂ t₂ n.spot placed_b opened v₃ rest₃ k at_k (LearnsBelow number bound) w m told ne
+    pub part_missed : m ≢ t → Keeps v w × (w.client.seen ≡ v.client.seen)
+    part_missed ne =
+        let missed = open_missed l.at_open l.book l.words t n.spot placed_b l.opened v₃ l.rest k l.first (LearnsBelow number bound) w m told ne in
+        (keeps_then v l.at_open w l.keeps missed.0, ap (λ (z : View). z.seen) (missed.1 ∙ l.client))
 
-    part_checked : Plays.Checked (LearnsBelow number bound v₂.client n.spot.number t₂ saw_b) t₂ (reading_on v₂ opened.before n.spot.number t₂ saw_b) m w
-    part_checked = open_checked v₂ b₂ words₂ t₂ n.spot placed_b opened v₃ rest₃ k at_k (LearnsBelow number bound) w m told
+    part_checked : Plays.Checked (LearnsBelow number bound l.at_open.client n.spot.number t saw_b) t (reading_on l.at_open l.opened.before n.spot.number t saw_b) m w
+    part_checked = open_checked l.at_open l.book l.words t n.spot placed_b l.opened v₃ l.rest k l.first (LearnsBelow number bound) w m told
 
-    module _ (hit : m ≡ t₂) where
-      pub part_keeps : Keeps v₂ w × (w.client.seen ≡ v₂.client.seen)
+    module _ (hit : m ≡ t) where
+      pub part_keeps : Keeps v w × (w.client.seen ≡ v.client.seen)
       part_keeps =
           let h = part_checked.hit hit in
-          let x : Watches number bound v₂.client n.spot saw_b h.1 = h.3 n.spot (keeps₂.met n.spot n.met) refl in (
-            learned_keeps v₂ w h.0 h.1 (read n.spot.number t₂ saw_b ∷ opened.before) h.2 (λ z in_it. subst (λ (y : View). IsIn z y.met) (sym x.watches) in_it) (ap (λ (y : View). y.own) x.watches),
-            ap (λ (z : Seen). z.client.seen) h.2 ∙ ap (λ (z : View). z.seen) x.watches,
+          let x : Watches number bound l.at_open.client n.spot saw_b h.1 = h.3 n.spot (l.keeps.met n.spot n.met) refl in
+          let learned = learned_keeps l.at_open w h.0 h.1 (read n.spot.number t saw_b ∷ l.opened.before) h.2 (λ z in_it. subst (λ (y : View). IsIn z y.met) (sym x.watches) in_it) (ap (λ (y : View). y.own) x.watches) in (
+            keeps_then v l.at_open w l.keeps learned,
+            ap (λ (z : Seen). z.client.seen) h.2 ∙ ap (λ (z : View). z.seen) x.watches ∙ ap (λ (z : View). z.seen) l.client,
           )
 
       pub part_parts : (head : ℕ) → ((c : Content) → Agree c saw_b → cells.at c 0 ≡ head) → (key : ℕ) → key < 2 ^ 64 → (lv byte : ℕ) → ((form : ℕ) (p : List ℕ) → IsHead head form p → Sees p key (prefix_matches.Leaves lv byte)) → IsParted w below key lv byte number
       part_parts head at_head key fits lv byte sees =
           let h = part_checked.hit hit in
-          let x : Watches number bound v₂.client n.spot saw_b h.1 = h.3 n.spot (keeps₂.met n.spot n.met) refl in
+          let x : Watches number bound l.at_open.client n.spot saw_b h.1 = h.3 n.spot (l.keeps.met n.spot n.met) refl in
           let p = x.is.its.prefix in
           let deep = x.is.deep in
           let short = x.is.encodes.head.short in
@@ -244,7 +261,7 @@ module _ (v : Seen) (below number : ℕ) (bound : Option ℕ) (up_there : IsAbov
           let e = watch number None (spot n.spot.number x.shape) in record {
             spot = spot n.spot.number x.shape;
             named = n.named ∙ sym (same_named n.spot x.shape x.is.now);
-            known = subst (λ (z : Seen). IsIn e z.client.watched) (sym h.2) (subst (λ (z : View). IsIn e z.watched) (sym x.watches) (inl (λ i. watch number (up_there.held i) (spot n.spot.number x.shape))));
+            known = subst (λ (z : Seen). IsIn e z.client.watched) (sym h.2) (subst (λ (z : View). IsIn e z.watched) (sym x.watches) (inl (λ i. watch number (l.above.held i) (spot n.spot.number x.shape))));
             some_height = omega (arith, deep, short);
             lower = leaves_lower p x.shape key fits deep has lv byte s.0 s.1 s.2 s.3 s.6;
             top = leaves_top p x.shape key fits deep has lv byte s.0 s.1 s.2 s.3 s.6;

@@ -3,7 +3,7 @@ use Rattle.std.proofs.Common.{◌≡◌, ◌≢◌, ℕ, ◌<◌, ◌^◌, [], �
 use Rattle.word_book.specs.Book.{reads, none_joined}
 use Rattle.live_nodes.specs.Seats.{Place, place, read, SeatView, IsIn}
 use Rattle.live_nodes.specs.Plays as Plays
-use Rattle.live_nodes.specs.Plays.{Takes, Sees, Checks}
+use Rattle.live_nodes.specs.Plays.{Checks}
 use Rattle.live_nodes.specs.Calls.{MayCheck}
 use Rattle.live_law.specs.Levels.{up, Spot, place_at}
 use Rattle.live_law.specs.Views.{View}
@@ -12,15 +12,13 @@ use Rattle.live_law.specs.Roots.{History, IsRoot, LearnsRoot, MayLearnRoot}
 use Rattle.live_law.proofs.Plans.{root-top}
 use Rattle.live_reads.specs.Paths.{KnowsRootWord, Names, Keeps}
 use Rattle.live_reads.specs.Roots.{SeesRoot}
-use Rattle.live_reads.proofs.Views.{head_read, reading, reading_keeps, learned_keeps, root_word_read}
+use Rattle.live_reads.proofs.Views.{head_read, reading, reading_keeps, learned_keeps}
 
 abbrev Seen : Type 0
 Seen = SeatView View
 
-module _ (sees : History → History → Type 0) (v : Seen) (known : KnowsRootWord v) (k₁ : ℕ) (at₁ : 1 ≡ k₁) (v₁ : Seen) (n : ℕ) (took_it : Takes (reads k₁) v n none_joined v₁) (k₂ : ℕ) (at₂ : 2 ≡ k₂) (v₂ : Seen) (x : ℕ) (saw_it : Sees (reads k₂) v₁ x none_joined v₂) (k₃ : ℕ) (at₃ : 1 ≡ k₃) where
-  was_read : v₂ ≡ reading v 0 n ((0, x) ∷ [])
-  was_read = root_word_read v known k₁ at₁ v₁ n took_it k₂ at₂ v₂ x saw_it
-
+-- THE ROOT WORD was taken, and then the name of the root was read
+module _ (sees : History → History → Type 0) {v v₂ : Seen} {n x : ℕ} (known : KnowsRootWord v) (was_read : v₂ ≡ reading v 0 n ((0, x) ∷ [])) (k₃ : ℕ) (at₃ : 1 ≡ k₃) where
   pub may_check_root : (id : ℕ) → MayLearnRoot sees id v.client → MayCheck v₂ k₃ IsMap id (LearnsRoot sees) n
   may_check_root id may = subst (λ (z : Seen). MayCheck z k₃ IsMap id (LearnsRoot sees) n) (sym was_read)
       (place 0 1 1, read 0 n ((0, x) ∷ []), (known, at₃), head_read 0 n ((0, x) ∷ []) v.reads, refl, may n x (read 0 n ((0, x) ∷ []) ∷ v.reads))

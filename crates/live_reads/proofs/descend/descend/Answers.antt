@@ -1,12 +1,30 @@
 use Rattle.std.proofs.Common.{rules, arith, ap, subst, false, Some, None, ◌≡◌, ◌≤◌, ◌∙◌}
 use Rattle.live_law.specs.Views.{View, ask}
-use Rattle.live_reads.specs.Paths.{Ended}
+use Rattle.live_reads.specs.Paths.{Ended, Keeps}
 use Rattle.live_reads.specs.Sees.{Follows, IsNextOpen}
+use Rattle.live_reads.specs.declared.prefix_match.Next.{Next}
 use Rattle.live_reads.specs.declared.prefix_match.Next.TheVariants as nexts
 use Rattle.live_reads.proofs.Finds.{keeps_then, names_kept, when_out}
 use Rattle.live_reads.proofs.Sights.{sights_names, sure_root}
 use Rattle.live_reads.proofs.Stood.{position_first, position_kept, position_below}
 use Rattle.live_reads.proofs.descend.descend.Goals as goal
+use Rattle.live_reads.proofs.descend.descend.Goals.{After-step, In_ok-step}
+
+-- ONE NODE FURTHER DOWN
+module _ (c : After-step) where
+  keeps : Keeps c.args.seat.now.view c.step.new.seat.view
+  keeps = keeps_then c.args.seat.now.view c.loop-position.seat.view c.step.new.seat.view c.loop-position.invariant.keeps c.step.ensures.told.2
+
+  book : c.step.new.seat.book ≡ c.args.seat.now.book
+  book = c.step.ensures.told.0 ∙ c.loop-position.invariant.book
+
+  id : c.step.new.seat.id ≡ c.args.seat.now.id
+  id = c.step.ensures.told.1 ∙ c.loop-position.invariant.id
+
+-- what follows
+module _ (c : In_ok-step) where
+  follows : (next : Next) → c.in_ok-step.step.next ≡ next → Follows (Ended false (ask c.loop-position.seat.id c.args.key 0 0) None) c.loop-position.seat.view c.step.new.seat.view c.args.key c.loop-position.position.height (Some next)
+  follows next is = subst (λ z. Follows (Ended false (ask c.loop-position.seat.id c.args.key 0 0) None) c.loop-position.seat.view c.step.new.seat.view c.args.key c.loop-position.position.height (Some z)) is c.in_ok-step.ensures.next.0
 
 pub returns-in_err-here : goal.returns-in_err-here
 returns-in_err-here c =
@@ -44,79 +62,43 @@ loop-position-init c =
 
 pub returns-in_err-step : goal.returns-in_err-step
 returns-in_err-step c =
-    let u = c.args.seat.now.view in
-    let i = c.loop-position.invariant in
-    let v = c.loop-position.seat.view in
-    let s = c.loop-position.position in
-    let w = c.step.new.seat.view in
-    let t = c.step.ensures.told in
-    let q = ask c.loop-position.seat.id c.args.key 0 0 in
-    let key = c.args.key in
-    let keeps = keeps_then u v w i.keeps t.2 in
-    let seen = c.in_err-step.ensures.none in
+    let k = (goal.at.returns-in_err-step c).After-step in
     let out : c.from_residual-in_err-step.result ≡ None = search rules in
-    record { told = (t.0 ∙ i.book, t.1 ∙ i.id, keeps, seen ∙ i.seen, when_out _ c.from_residual-in_err-step.result out) }
+    record { told = (book k, id k, keeps k, c.in_err-step.ensures.none ∙ c.loop-position.invariant.seen, when_out _ c.from_residual-in_err-step.result out) }
 
 pub returns-in-Ends : goal.returns-in-Ends
 returns-in-Ends c =
-    let u = c.args.seat.now.view in
-    let i = c.loop-position.invariant in
-    let v = c.loop-position.seat.view in
-    let s = c.loop-position.position in
-    let w = c.step.new.seat.view in
-    let t = c.step.ensures.told in
-    let q = ask c.loop-position.seat.id c.args.key 0 0 in
-    let key = c.args.key in
-    let keeps = keeps_then u v w i.keeps t.2 in
-    let Ends = Ended false q None in
-    let next = c.in_ok-step.ensures.next in
-    let is : c.in_ok-step.step.next ≡ nexts.Ends = search rules in
-    let f = subst (λ z. Follows Ends v w key s.height (Some z)) is next.0 in
-    record { told = (t.0 ∙ i.book, t.1 ∙ i.id, keeps, f ∙ i.seen, (position_kept v w key s t.2 i.position, tt)) }
+    let at = goal.at.returns-in-Ends c in
+    let k = at.After-step in
+    let f = follows at.In_ok-step nexts.Ends (search rules) in
+    let kept = position_kept c.loop-position.seat.view c.step.new.seat.view c.args.key c.loop-position.position c.step.ensures.told.2 c.loop-position.invariant.position in
+    record { told = (book k, id k, keeps k, f ∙ c.loop-position.invariant.seen, (kept, tt)) }
 
 pub loop-position-preserved : goal.loop-position-preserved
 loop-position-preserved c =
-    let u = c.args.seat.now.view in
-    let i = c.loop-position.invariant in
-    let v = c.loop-position.seat.view in
-    let s = c.loop-position.position in
+    let at = goal.at.loop-position-preserved c in
+    let k = at.After-step in
     let w = c.step.new.seat.view in
-    let t = c.step.ensures.told in
-    let q = ask c.loop-position.seat.id c.args.key 0 0 in
-    let key = c.args.key in
-    let keeps = keeps_then u v w i.keeps t.2 in
-    let Ends = Ended false q None in
-    let next = c.in_ok-step.ensures.next in
     let here = c.in_ok-step.step.here in
     let is : c.in_ok-step.step.next ≡ nexts.Goes c.in-Goes.name c.in-Goes.height = search rules in
-    let f = subst (λ z. Follows Ends v w key s.height (Some z)) is next.0 in
-    let node = subst (λ z. IsNextOpen w c.step.new.seat.book here.words.now here.taken key z) is next.1 in
+    let f = follows at.In_ok-step (nexts.Goes c.in-Goes.name c.in-Goes.height) is in
     record {
-      book = t.0 ∙ i.book;
-      id = t.1 ∙ i.id;
-      keeps = keeps;
-      seen = f.0 ∙ i.seen;
-      position = position_below v w key s c.in-Goes.name c.in-Goes.height t.2 i.position f.1 f.2 f.3;
-      node = node;
+      book = book k;
+      id = id k;
+      keeps = keeps k;
+      seen = f.0 ∙ c.loop-position.invariant.seen;
+      position = position_below c.loop-position.seat.view w c.args.key c.loop-position.position c.in-Goes.name c.in-Goes.height c.step.ensures.told.2 c.loop-position.invariant.position f.1 f.2 f.3;
+      node = subst (λ z. IsNextOpen w c.step.new.seat.book here.words.now here.taken c.args.key z) is c.in_ok-step.ensures.next.1;
     }
 
 pub returns-in-Mismatches : goal.returns-in-Mismatches
 returns-in-Mismatches c =
-    let u = c.args.seat.now.view in
-    let i = c.loop-position.invariant in
-    let v = c.loop-position.seat.view in
-    let s = c.loop-position.position in
-    let w = c.step.new.seat.view in
-    let t = c.step.ensures.told in
-    let q = ask c.loop-position.seat.id c.args.key 0 0 in
-    let key = c.args.key in
-    let keeps = keeps_then u v w i.keeps t.2 in
-    let Ends = Ended false q None in
-    let next = c.in_ok-step.ensures.next in
-    let is : c.in_ok-step.step.next ≡ nexts.Mismatches c.in-Mismatches.mismatch = search rules in
-    let f = subst (λ z. Follows Ends v w key s.height (Some z)) is next.0 in
-    let tall : 2 ≤ s.height = omega (arith, c.loop-position-test.true) in
-    record { told = (t.0 ∙ i.book, t.1 ∙ i.id, keeps, f.0 ∙ i.seen, (position_kept v w key s t.2 i.position, (tall, f.1))) }
+    let at = goal.at.returns-in-Mismatches c in
+    let k = at.After-step in
+    let f = follows at.In_ok-step (nexts.Mismatches c.in-Mismatches.mismatch) (search rules) in
+    let tall : 2 ≤ c.loop-position.position.height = omega (arith, c.loop-position-test.true) in
+    let kept = position_kept c.loop-position.seat.view c.step.new.seat.view c.args.key c.loop-position.position c.step.ensures.told.2 c.loop-position.invariant.position in
+    record { told = (book k, id k, keeps k, f.0 ∙ c.loop-position.invariant.seen, (kept, (tall, f.1))) }
 
 pub returns : goal.returns
 returns c =

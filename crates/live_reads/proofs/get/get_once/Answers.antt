@@ -1,11 +1,41 @@
 use Rattle.std.proofs.Common.{rules, arith, sym, ap, subst, ℕ, Some, None, ◌≡◌, ◌∙◌}
 use Rattle.live_law.specs.Views.{View}
-use Rattle.live_reads.specs.Paths.{IsOpen, Found, Ended}
+use Rattle.live_reads.specs.Paths.{IsOpen, Keeps, Found, Ended}
 use Rattle.live_reads.specs.Sees.{Follows, IsNextOpen}
+use Rattle.live_reads.specs.declared.prefix_match.Next.{Next}
 use Rattle.live_reads.specs.declared.prefix_match.Next.TheVariants as nexts
 use Rattle.live_reads.proofs.Finds.{keeps_then, seen_more, looked_leaf, ended_none, names_kept}
 use Rattle.live_reads.proofs.Sights.{sights_names, sure_root}
+use Rattle.live_reads.proofs.get.get_once.Given.{Over}
 use Rattle.live_reads.proofs.get.get_once.Goals as goal
+use Rattle.live_reads.proofs.get.get_once.Goals.{After-step, In_ok-step, After-ends_above}
+
+-- ONE NODE FURTHER DOWN
+module _ (g : Over) (c : After-step g) where
+  keeps : Keeps c.args.seat.now.view c.step.new.seat.view
+  keeps = keeps_then c.args.seat.now.view c.loop-height.seat.view c.step.new.seat.view c.loop-height.invariant.keeps c.step.ensures.told.2
+
+  book : c.step.new.seat.book ≡ c.args.seat.now.book
+  book = c.step.ensures.told.0 ∙ c.loop-height.invariant.book
+
+  id : c.step.new.seat.id ≡ c.args.seat.now.id
+  id = c.step.ensures.told.1 ∙ c.loop-height.invariant.id
+
+-- what follows
+module _ (g : Over) (c : In_ok-step g) where
+  follows : (next : Next) → c.in_ok-step.step.next ≡ next → Follows (Ended g.A.Asks.reads g.A.Asks.ask None) c.loop-height.seat.view c.step.new.seat.view c.args.key c.loop-height.height (Some next)
+  follows next is = subst (λ z. Follows (Ended g.A.Asks.reads g.A.Asks.ask None) c.loop-height.seat.view c.step.new.seat.view c.args.key c.loop-height.height (Some z)) is c.in_ok-step.ensures.next.0
+
+-- THE NODE ABOVE was compared, where the key leaves the path of the one below
+module _ (g : Over) (c : After-ends_above g) where
+  abbrev step_of : After-step g
+  step_of = (goal.at.After-ends_above g c).After-step
+
+  all_keeps : Keeps c.args.seat.now.view c.ends_above.new.seat.view
+  all_keeps = keeps_then c.args.seat.now.view c.step.new.seat.view c.ends_above.new.seat.view (keeps g step_of) c.ends_above.ensures.told.2
+
+  seen_before : c.step.new.seat.view.client.seen ≡ c.args.seat.now.view.client.seen
+  seen_before = (follows g (goal.at.After-ends_above g c).In_ok-step (nexts.Mismatches c.in-Mismatches.mismatch) (search rules)).0 ∙ c.loop-height.invariant.seen
 
 pub returns-in_err-here : goal.returns-in_err-here
 returns-in_err-here g c =
@@ -43,61 +73,34 @@ loop-height-init g c =
 
 pub returns-in_err-step : goal.returns-in_err-step
 returns-in_err-step g c =
-    let u = c.args.seat.now.view in
-    let i = c.loop-height.invariant in
-    let v = c.loop-height.seat.view in
-    let h = c.loop-height.height in
-    let w = c.step.new.seat.view in
-    let t = c.step.ensures.told in
-    let q = g.A.Asks.ask in
-    let key = c.args.key in
-    let keeps = keeps_then u v w i.keeps t.2 in
-    let seen = c.in_err-step.ensures.none in
+    let k = (goal.at.returns-in_err-step g c).After-step in
     let out : c.from_residual-in_err-step.result ≡ None = search rules in
-    record { told = (t.0 ∙ i.book, t.1 ∙ i.id, keeps, subst (λ o. Found q o u w) (sym out) (seen ∙ i.seen)) }
+    record { told = (book g k, id g k, keeps g k, subst (λ o. Found g.A.Asks.ask o c.args.seat.now.view c.step.new.seat.view) (sym out) (c.in_err-step.ensures.none ∙ c.loop-height.invariant.seen)) }
 
 pub returns-in-Ends : goal.returns-in-Ends
 returns-in-Ends g c =
-    let u = c.args.seat.now.view in
-    let i = c.loop-height.invariant in
+    let at = goal.at.returns-in-Ends g c in
+    let k = at.After-step in
     let v = c.loop-height.seat.view in
-    let h = c.loop-height.height in
     let w = c.step.new.seat.view in
-    let t = c.step.ensures.told in
-    let q = g.A.Asks.ask in
-    let key = c.args.key in
-    let keeps = keeps_then u v w i.keeps t.2 in
-    let Ends = Ended g.A.Asks.reads q None in
-    let next = c.in_ok-step.ensures.next in
-    let is : c.in_ok-step.step.next ≡ nexts.Ends = search rules in
-    let f = subst (λ z. Follows Ends v w key h (Some z)) is next.0 in
-    record { told = (t.0 ∙ i.book, t.1 ∙ i.id, keeps, seen_more q (Some None) u v w i.seen (ended_none g.A.Asks.reads q v w c.requires.asks.2 f)) }
+    let none = ended_none g.A.Asks.reads g.A.Asks.ask v w c.requires.asks.2 (follows g at.In_ok-step nexts.Ends (search rules)) in
+    record { told = (book g k, id g k, keeps g k, seen_more g.A.Asks.ask (Some None) c.args.seat.now.view v w c.loop-height.invariant.seen none) }
 
 pub loop-height-preserved : goal.loop-height-preserved
 loop-height-preserved g c =
-    let u = c.args.seat.now.view in
-    let i = c.loop-height.invariant in
-    let v = c.loop-height.seat.view in
-    let h = c.loop-height.height in
-    let w = c.step.new.seat.view in
-    let t = c.step.ensures.told in
-    let q = g.A.Asks.ask in
-    let key = c.args.key in
-    let keeps = keeps_then u v w i.keeps t.2 in
-    let Ends = Ended g.A.Asks.reads q None in
-    let next = c.in_ok-step.ensures.next in
+    let at = goal.at.loop-height-preserved g c in
+    let k = at.After-step in
     let here = c.in_ok-step.step.here in
     let is : c.in_ok-step.step.next ≡ nexts.Goes c.in-Goes.below c.in-Goes.lower = search rules in
-    let f = subst (λ z. Follows Ends v w key h (Some z)) is next.0 in
-    let node = subst (λ z. IsNextOpen w c.step.new.seat.book here.words.now here.taken key z) is next.1 in
+    let f = follows g at.In_ok-step (nexts.Goes c.in-Goes.below c.in-Goes.lower) is in
     record {
-      book = t.0 ∙ i.book;
-      id = t.1 ∙ i.id;
-      keeps = keeps;
-      seen = f.0 ∙ i.seen;
+      book = book g k;
+      id = id g k;
+      keeps = keeps g k;
+      seen = f.0 ∙ c.loop-height.invariant.seen;
       low = f.2;
-      high = (let x = i.high in let y = f.3 in omega (arith, x, y));
-      node = node;
+      high = (let x = c.loop-height.invariant.high in let y = f.3 in omega (arith, x, y));
+      node = subst (λ z. IsNextOpen c.step.new.seat.view c.step.new.seat.book here.words.now here.taken c.args.key z) is c.in_ok-step.ensures.next.1;
     }
 
 pub ends_above-requires-clause-sighted : goal.ends_above-requires-clause-sighted
@@ -105,51 +108,23 @@ ends_above-requires-clause-sighted g c =
     let v = c.loop-height.seat.view in
     let w = c.step.new.seat.view in
     let h = c.loop-height.height in
-    let key = c.args.key in
-    let Ends = Ended g.A.Asks.reads g.A.Asks.ask None in
-    let is : c.in_ok-step.step.next ≡ nexts.Mismatches c.in-Mismatches.mismatch = search rules in
-    let f = subst (λ z. Follows Ends v w key h (Some z)) is c.in_ok-step.ensures.next.0 in
-    (sights_names w c.loop-height.name key h (names_kept v w c.loop-height.name key h c.step.ensures.told.2 c.loop-height.invariant.node.names), f.1.sighted)
+    let f = follows g (goal.at.ends_above-requires-clause-sighted g c).In_ok-step (nexts.Mismatches c.in-Mismatches.mismatch) (search rules) in
+    (sights_names w c.loop-height.name c.args.key h (names_kept v w c.loop-height.name c.args.key h c.step.ensures.told.2 c.loop-height.invariant.node.names), f.1.sighted)
 
 pub returns-then-ends_above : goal.returns-then-ends_above
 returns-then-ends_above g c =
-    let u = c.args.seat.now.view in
-    let i = c.loop-height.invariant in
-    let v = c.loop-height.seat.view in
-    let h = c.loop-height.height in
-    let w = c.step.new.seat.view in
-    let t = c.step.ensures.told in
-    let q = g.A.Asks.ask in
-    let key = c.args.key in
-    let keeps = keeps_then u v w i.keeps t.2 in
-    let Ends = Ended g.A.Asks.reads q None in
-    let next = c.in_ok-step.ensures.next in
-    let is : c.in_ok-step.step.next ≡ nexts.Mismatches c.in-Mismatches.mismatch = search rules in
-    let f = subst (λ z. Follows Ends v w key h (Some z)) is next.0 in
-    let x = c.ends_above.new.seat.view in
+    let a = (goal.at.returns-then-ends_above g c).After-ends_above in
+    let k = step_of g a in
     let e = c.ends_above.ensures.told in
-    let a = c.ends_above.ensures.ends (search rules) in
-    record { told = (e.0 ∙ (t.0 ∙ i.book), e.1 ∙ (t.1 ∙ i.id), keeps_then u w x keeps e.2, seen_more q (Some None) u w x (f.0 ∙ i.seen) a) }
+    let none = seen_more g.A.Asks.ask (Some None) c.args.seat.now.view c.step.new.seat.view c.ends_above.new.seat.view (seen_before g a) (c.ends_above.ensures.ends (search rules)) in
+    record { told = (e.0 ∙ book g k, e.1 ∙ id g k, all_keeps g a, none) }
 
 pub returns-in-Mismatches : goal.returns-in-Mismatches
 returns-in-Mismatches g c =
-    let u = c.args.seat.now.view in
-    let i = c.loop-height.invariant in
-    let v = c.loop-height.seat.view in
-    let h = c.loop-height.height in
-    let w = c.step.new.seat.view in
-    let t = c.step.ensures.told in
-    let q = g.A.Asks.ask in
-    let key = c.args.key in
-    let keeps = keeps_then u v w i.keeps t.2 in
-    let Ends = Ended g.A.Asks.reads q None in
-    let next = c.in_ok-step.ensures.next in
-    let is : c.in_ok-step.step.next ≡ nexts.Mismatches c.in-Mismatches.mismatch = search rules in
-    let f = subst (λ z. Follows Ends v w key h (Some z)) is next.0 in
-    let x = c.ends_above.new.seat.view in
+    let a = (goal.at.returns-in-Mismatches g c).After-ends_above in
+    let k = step_of g a in
     let e = c.ends_above.ensures.told in
-    let same = c.ends_above.ensures.busy (search rules) in
-    record { told = (e.0 ∙ (t.0 ∙ i.book), e.1 ∙ (t.1 ∙ i.id), keeps_then u w x keeps e.2, same ∙ (f.0 ∙ i.seen)) }
+    record { told = (e.0 ∙ book g k, e.1 ∙ id g k, all_keeps g a, c.ends_above.ensures.busy (search rules) ∙ seen_before g a) }
 
 pub look-requires-clause-open : goal.look-requires-clause-open
 look-requires-clause-open g c =

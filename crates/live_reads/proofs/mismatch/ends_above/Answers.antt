@@ -1,133 +1,78 @@
-use Rattle.std.proofs.Common.{rules, arith, refl, sym, subst, get_or, ℕ, List, Bool, None, false, IsTrue, ◌≡◌, ◌/◌, ◌∙◌}
+use Rattle.std.proofs.Common.{rules, arith, refl, sym, subst, get_or, ℕ, List, Bool, None, false, IsTrue, ◌≡◌, ◌≢◌, ◌/◌, ◌∙◌}
 use mathlib.Core.Logic.{dite}
 use native.Mathlib.Decide.{ℕ_discrete}
+use Rattle.word_book.specs.Book.{Name}
 use Rattle.share_rule.specs.History.{Entry}
 use Rattle.live_law.specs.Levels.{place_at}
 use Rattle.live_law.specs.Views.{got}
 use Rattle.live_law.specs.Tree.{Answers}
+use Rattle.live_reads.specs.Mismatches.{IsMismatched}
+use Rattle.live_reads.specs.Paths.{Keeps}
 use Rattle.live_reads.proofs.Finds.{keeps_then}
 use Rattle.live_reads.proofs.Views.{first_word}
 use Rattle.live_reads.proofs.Sights.{sights_kept}
 use Rattle.live_reads.proofs.Mismatches.{may_miss, miss_lost, miss_ends}
+use Rattle.live_reads.proofs.mismatch.ends_above.Given.{Over}
 use Rattle.live_reads.proofs.mismatch.ends_above.Goals as goal
+use Rattle.live_reads.proofs.mismatch.ends_above.Goals.{After-watch, After-check}
 
 not_both : (b : Bool) → b ≡ false → IsTrue b → ⊥
 not_both b off holds = search rules
 
+-- WHETHER THE NODE BELOW MISMATCHES was read
+module _ (g : Over) (c : After-watch g) where
+  kept : Keeps c.args.seat.now.view c.watch.new.seat.view
+  kept = keeps_then c.args.seat.now.view c.enter.new.seat.view c.watch.new.seat.view c.enter.ensures.told.2 c.watch.ensures.told.2
+
+  abbrev Mismatched : Type 0
+  Mismatched = IsMismatched c.watch.new.seat.view c.watch.new.seat.book c.in-Some.here.words.now c.in-Some.here.taken c.args.name c.args.key c.args.height
+
+  at_first : (f : Mismatched) (d : Name) → (place_at f.names.spot).key ≡ (get_or c.in-Some.here.words.now 0 d).key
+  at_first f d = (first_word (place_at f.names.spot) c.watch.new.seat.book c.in-Some.here.words.now f.are (get_or c.in-Some.here.words.now 0 d) d refl).0
+
+-- and the word of the node above is compared
+module _ (g : Over) (c : After-check g) (hits : IsTrue c.watch.result) where
+  abbrev w : After-watch g
+  w = (goal.at.After-check g c).After-watch
+
+  abbrev f : Mismatched g w
+  f = c.watch.ensures.mismatched hits
+
+  lost : c.check.ensures.told.0 ≢ c.in-Some.here.taken → Keeps c.watch.new.seat.view c.check.new.seat.view × (c.check.new.seat.view.client.seen ≡ c.watch.new.seat.view.client.seen)
+  lost = miss_lost c.watch.new.seat.view c.watch.new.seat.book c.in-Some.here.words.now c.in-Some.here.taken c.args.name c.args.key c.args.height f c.requires.height.0 _ (at_first g w f c.index-here-0.result) g.A.Asks.ask c.requires.asks.0 c.check.new.seat.view c.check.ensures.told.0 c.check.ensures.told.2
+
+  ends : c.check.ensures.told.0 ≡ c.in-Some.here.taken → Keeps c.watch.new.seat.view c.check.new.seat.view × Answers g.A.Asks.ask.caller (got g.A.Asks.ask None) c.watch.new.seat.view.client.seen c.check.new.seat.view.client.seen
+  ends = miss_ends c.watch.new.seat.view c.watch.new.seat.book c.in-Some.here.words.now c.in-Some.here.taken c.args.name c.args.key c.args.height f c.requires.height.0 _ (at_first g w f c.index-here-0.result) g.A.Asks.ask c.requires.asks.0 c.check.new.seat.view c.check.ensures.told.0 c.check.ensures.told.2
+
 pub watch-requires-clause-below : goal.watch-requires-clause-below
-watch-requires-clause-below g c =
-    let v = c.args.seat.now.view in
-    let u = c.enter.new.seat.view in
-    sights_kept v u c.enter.ensures.told.2 c.args.below c.requires.sighted.1
+watch-requires-clause-below g c = sights_kept c.args.seat.now.view c.enter.new.seat.view c.enter.ensures.told.2 c.args.below c.requires.sighted.1
 
 pub returns-then-not-watch-clause-told : goal.returns-then-not-watch-clause-told
-returns-then-not-watch-clause-told g c =
-    let v = c.args.seat.now.view in
-    let u = c.enter.new.seat.view in
-    let e = c.enter.ensures.told in
-    let name = c.args.name in
-    let key = c.args.key in
-    let height = c.args.height in
-    let words = c.in-Some.here.words.now in
-    let t = c.in-Some.here.taken in
-    let w = c.watch.new.seat.view in
-    let s = c.watch.ensures.told in
-    (s.0 ∙ e.0, s.1 ∙ e.1, keeps_then v u w e.2 s.2)
+returns-then-not-watch-clause-told g c = (c.watch.ensures.told.0 ∙ c.enter.ensures.told.0, c.watch.ensures.told.1 ∙ c.enter.ensures.told.1, kept g (goal.at.returns-then-not-watch-clause-told g c).After-watch)
 
 pub check-requires-clause-learns : goal.check-requires-clause-learns
 check-requires-clause-learns g c =
-    let v = c.args.seat.now.view in
-    let u = c.enter.new.seat.view in
-    let e = c.enter.ensures.told in
-    let name = c.args.name in
-    let key = c.args.key in
-    let height = c.args.height in
-    let words = c.in-Some.here.words.now in
-    let t = c.in-Some.here.taken in
-    let w = c.watch.new.seat.view in
-    let s = c.watch.ensures.told in
+    let w = (goal.at.check-requires-clause-learns g c).After-watch in
     let f = c.watch.ensures.mismatched (search rules) in
-    let b = c.watch.new.seat.book in
-    let first = get_or words 0 c.index-here-0.result in
-    let at_k = (first_word (place_at f.names.spot) b words f.are first c.index-here-0.result refl).0 in
-    let high = c.requires.height.0 in
-    let q = g.A.Asks.ask in
-    let asked = c.requires.asks.0 in
-    may_miss w b words t name key height f high first.key at_k q asked c.watch.new.seat.id (t / 4) (c.requires.asks.1 ∙ sym (s.1 ∙ e.1)) (let free = f.free in omega (arith, free))
+    let free = f.free in
+    may_miss c.watch.new.seat.view c.watch.new.seat.book c.in-Some.here.words.now c.in-Some.here.taken c.args.name c.args.key c.args.height f c.requires.height.0 _ (at_first g w f c.index-here-0.result) g.A.Asks.ask c.requires.asks.0
+    c.watch.new.seat.id (c.in-Some.here.taken / 4) (c.requires.asks.1 ∙ sym (c.watch.ensures.told.1 ∙ c.enter.ensures.told.1)) (omega (arith, free))
 
 pub returns-clause-told : goal.returns-clause-told
 returns-clause-told g c =
-    let v = c.args.seat.now.view in
-    let u = c.enter.new.seat.view in
-    let e = c.enter.ensures.told in
-    let name = c.args.name in
-    let key = c.args.key in
-    let height = c.args.height in
-    let words = c.in-Some.here.words.now in
-    let t = c.in-Some.here.taken in
-    let w = c.watch.new.seat.view in
-    let s = c.watch.ensures.told in
-    let f = c.watch.ensures.mismatched (search rules) in
-    let b = c.watch.new.seat.book in
-    let first = get_or words 0 c.index-here-0.result in
-    let at_k = (first_word (place_at f.names.spot) b words f.are first c.index-here-0.result refl).0 in
-    let high = c.requires.height.0 in
-    let q = g.A.Asks.ask in
-    let asked = c.requires.asks.0 in
-    let told = c.check.ensures.told in
-    let x = c.check.new.seat.view in
-    let lost = miss_lost w b words t name key height f high first.key at_k q asked x told.0 told.2 in
-    let ends = miss_ends w b words t name key height f high first.key at_k q asked x told.0 told.2 in
-    let seat = c.check.ensures.seat in
-    let keeps = dite (ℕ_discrete told.0 t) (λ hit. (ends hit).0) (λ ne. (lost ne).0) in
-    (seat.0 ∙ (s.0 ∙ e.0), seat.1 ∙ (s.1 ∙ e.1), keeps_then v w x (keeps_then v u w e.2 s.2) keeps)
+    let k = (goal.at.returns-clause-told g c).After-check in
+    let t = c.check.ensures.told.0 in
+    let keeps = dite (ℕ_discrete t c.in-Some.here.taken) (λ hit. (ends g k (search rules) hit).0) (λ ne. (lost g k (search rules) ne).0) in (
+      c.check.ensures.seat.0 ∙ (c.watch.ensures.told.0 ∙ c.enter.ensures.told.0),
+      c.check.ensures.seat.1 ∙ (c.watch.ensures.told.1 ∙ c.enter.ensures.told.1),
+      keeps_then c.args.seat.now.view c.watch.new.seat.view c.check.new.seat.view (kept g (w g k (search rules))) keeps,
+    )
 
 pub returns-clause-ends : goal.returns-clause-ends
 returns-clause-ends g c = λ yes.
-    let v = c.args.seat.now.view in
-    let u = c.enter.new.seat.view in
-    let e = c.enter.ensures.told in
-    let name = c.args.name in
-    let key = c.args.key in
-    let height = c.args.height in
-    let words = c.in-Some.here.words.now in
-    let t = c.in-Some.here.taken in
-    let w = c.watch.new.seat.view in
-    let s = c.watch.ensures.told in
-    let f = c.watch.ensures.mismatched (search rules) in
-    let b = c.watch.new.seat.book in
-    let first = get_or words 0 c.index-here-0.result in
-    let at_k = (first_word (place_at f.names.spot) b words f.are first c.index-here-0.result refl).0 in
-    let high = c.requires.height.0 in
-    let q = g.A.Asks.ask in
-    let asked = c.requires.asks.0 in
-    let told = c.check.ensures.told in
-    let x = c.check.new.seat.view in
-    let lost = miss_lost w b words t name key height f high first.key at_k q asked x told.0 told.2 in
-    let ends = miss_ends w b words t name key height f high first.key at_k q asked x told.0 told.2 in
-    subst (λ (z : List (Entry ℕ)). Answers q.caller (got q None) z x.client.seen) (s.3 ∙ e.3) (ends (told.1.0 yes)).1
+    subst (λ (z : List (Entry ℕ)). Answers g.A.Asks.ask.caller (got g.A.Asks.ask None) z c.check.new.seat.view.client.seen) (c.watch.ensures.told.3 ∙ c.enter.ensures.told.3)
+    (ends g (goal.at.returns-clause-ends g c).After-check (search rules) (c.check.ensures.told.1.0 yes)).1
 
 pub returns-clause-busy : goal.returns-clause-busy
 returns-clause-busy g c = λ off.
-    let v = c.args.seat.now.view in
-    let u = c.enter.new.seat.view in
-    let e = c.enter.ensures.told in
-    let name = c.args.name in
-    let key = c.args.key in
-    let height = c.args.height in
-    let words = c.in-Some.here.words.now in
-    let t = c.in-Some.here.taken in
-    let w = c.watch.new.seat.view in
-    let s = c.watch.ensures.told in
-    let f = c.watch.ensures.mismatched (search rules) in
-    let b = c.watch.new.seat.book in
-    let first = get_or words 0 c.index-here-0.result in
-    let at_k = (first_word (place_at f.names.spot) b words f.are first c.index-here-0.result refl).0 in
-    let high = c.requires.height.0 in
-    let q = g.A.Asks.ask in
-    let asked = c.requires.asks.0 in
-    let told = c.check.ensures.told in
-    let x = c.check.new.seat.view in
-    let lost = miss_lost w b words t name key height f high first.key at_k q asked x told.0 told.2 in
-    let ends = miss_ends w b words t name key height f high first.key at_k q asked x told.0 told.2 in
-    (lost (λ hit. not_both c.check.result off (told.1.1 hit))).1 ∙ (s.3 ∙ e.3)
+    (lost g (goal.at.returns-clause-busy g c).After-check (search rules) (λ hit. not_both c.check.result off (c.check.ensures.told.1.1 hit))).1 ∙ (c.watch.ensures.told.3 ∙ c.enter.ensures.told.3)

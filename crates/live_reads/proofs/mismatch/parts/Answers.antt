@@ -1,208 +1,95 @@
 use Rattle.std.proofs.Common.{rules, arith, refl, ap, subst, get_or, ℕ, List, ◌≡◌, ◌/◌, ◌∙◌}
+use Rattle.word_book.specs.Book.{Name}
 use Rattle.live_layout.specs.Head.{IsHead}
+use Rattle.live_nodes.specs.Seats.{IsIn, SeatView}
 use Rattle.live_law.specs.Levels.{place_at}
 use Rattle.live_law.specs.Views.{View}
 use Rattle.live_reads.specs.Mismatches.{IsParted}
+use Rattle.live_reads.specs.Paths.{HasOpened, Keeps}
 use Rattle.live_reads.specs.declared.prefix_match.PrefixMatch.TheVariants as prefix_matches
 use Rattle.live_reads.specs.Sees.{Sees}
-use Rattle.live_reads.proofs.Finds.{keeps_then}
 use Rattle.live_reads.proofs.Views.{first_word, may_read_open, open_long}
-use Rattle.live_reads.proofs.Mismatches.{may_part, part_missed, part_keeps, part_parts}
+use Rattle.live_reads.proofs.Mismatches.{Lower, may_part, part_missed, part_keeps, part_parts}
+use Rattle.live_reads.proofs.mismatch.parts.Given.{Over}
 use Rattle.live_reads.proofs.mismatch.parts.Goals as goal
+use Rattle.live_reads.proofs.mismatch.parts.Goals.{In-Some, After-word-head, After-check}
+
+-- THE NODE BELOW is open
+module _ (g : Over) (c : In-Some g) where
+  opened : HasOpened c.open.new.seat.view c.open.new.seat.book c.in-Some.other.words.now c.in-Some.other.taken c.requires.below.spot
+  opened = c.in-Some.ensures.opened.1 c.requires.below
+
+  placed : IsIn (place_at c.requires.below.spot) c.open.new.seat.view.places
+  placed = c.open.ensures.told.2.places (place_at c.requires.below.spot) c.requires.below.placed
+
+-- and its head was read
+module _ (g : Over) (c : After-word-head g) where
+  lower : (d : Name) → Lower c.args.seat.now.view c.args.mismatch.below g.N.Above.number g.N.Above.word c.word-head.new.seat.view c.in-Some.other.taken (get_or c.in-Some.other.words.now 0 d).key
+  lower d =
+      let o = opened g (goal.at.After-word-head g c).In-Some in
+      let at_open = c.open.ensures.told in record {
+        above = c.requires.above;
+        names = c.requires.below;
+        at_open = c.open.new.seat.view;
+        keeps = at_open.2;
+        client = at_open.3;
+        book = c.open.new.seat.book;
+        words = c.in-Some.other.words.now;
+        opened = o;
+        rest = ap (λ s. s.view) c.word-head.ensures.seat.others;
+        first = (first_word (place_at c.requires.below.spot) c.open.new.seat.book c.in-Some.other.words.now o.are (get_or c.in-Some.other.words.now 0 d) d refl).0;
+      }
+
+-- its word is as it was
+module _ (g : Over) (c : After-check g) where
+  at_check : Lower c.args.seat.now.view c.args.mismatch.below g.N.Above.number g.N.Above.word c.word-head.new.seat.view c.in-Some.other.taken (get_or c.in-Some.other.words.now 0 c.index-other-0.result).key
+  at_check = lower g (goal.at.After-check g c).After-word-head c.index-other-0.result
+
+  abbrev Told : Type 0
+  Told = (c.check.new.seat.book ≡ c.args.seat.now.book) × (c.check.new.seat.id ≡ c.args.seat.now.id) × Keeps c.args.seat.now.view c.check.new.seat.view × (c.check.new.seat.view.client.seen ≡ c.args.seat.now.view.client.seen)
+
+  kept : Keeps c.args.seat.now.view c.check.new.seat.view × (c.check.new.seat.view.client.seen ≡ c.args.seat.now.view.client.seen) → Told
+  kept k =
+      let read = c.word-head.ensures.seat.others in
+      let s = c.check.ensures.seat in
+      (s.0 ∙ (ap (λ s. s.book) read ∙ c.open.ensures.told.0), s.1 ∙ (ap (λ s. s.id) read ∙ c.open.ensures.told.1), k.0, k.1)
+
+  held : c.check.ensures.told.0 ≡ c.in-Some.other.taken → Told
+  held hit = kept (part_keeps at_check c.check.new.seat.view c.check.ensures.told.0 c.check.ensures.told.2 hit)
 
 pub word-head-requires-clause-may : goal.word-head-requires-clause-may
 word-head-requires-clause-may g c =
-    let v = c.args.seat.now.view in
-    let n = c.requires.below in
-    let up_there = c.requires.above in
-    let v₂ = c.open.new.seat.view in
-    let told₂ = c.open.ensures.told in
-    let b₂ = c.open.new.seat.book in
-    let words₂ = c.in-Some.other.words.now in
-    let t₂ = c.in-Some.other.taken in
-    let o₂ = c.in-Some.ensures.opened.1 n in
-    let free₂ = c.in-Some.ensures.opened.0 in
-    let placed₂ = told₂.2.places (place_at n.spot) n.placed in
-    may_read_open v₂ b₂ words₂ t₂ n.spot placed₂ o₂
+    let o = (goal.at.word-head-requires-clause-may g c).In-Some in
+    may_read_open c.open.new.seat.view c.open.new.seat.book c.in-Some.other.words.now c.in-Some.other.taken c.requires.below.spot (placed g o) (opened g o)
 
 pub word-head-requires-clause-inside : goal.word-head-requires-clause-inside
 word-head-requires-clause-inside g c =
-    let v = c.args.seat.now.view in
-    let n = c.requires.below in
-    let up_there = c.requires.above in
-    let v₂ = c.open.new.seat.view in
-    let told₂ = c.open.ensures.told in
-    let b₂ = c.open.new.seat.book in
-    let words₂ = c.in-Some.other.words.now in
-    let t₂ = c.in-Some.other.taken in
-    let o₂ = c.in-Some.ensures.opened.1 n in
-    let free₂ = c.in-Some.ensures.opened.0 in
-    let placed₂ = told₂.2.places (place_at n.spot) n.placed in
-    open_long v₂ b₂ words₂ t₂ n.spot placed₂ o₂
+    let o = (goal.at.word-head-requires-clause-inside g c).In-Some in
+    open_long c.open.new.seat.view c.open.new.seat.book c.in-Some.other.words.now c.in-Some.other.taken c.requires.below.spot (placed g o) (opened g o)
 
 pub check-requires-clause-learns : goal.check-requires-clause-learns
 check-requires-clause-learns g c =
-    let v = c.args.seat.now.view in
-    let n = c.requires.below in
-    let up_there = c.requires.above in
-    let v₂ = c.open.new.seat.view in
-    let told₂ = c.open.ensures.told in
-    let b₂ = c.open.new.seat.book in
-    let words₂ = c.in-Some.other.words.now in
-    let t₂ = c.in-Some.other.taken in
-    let o₂ = c.in-Some.ensures.opened.1 n in
-    let free₂ = c.in-Some.ensures.opened.0 in
-    let placed₂ = told₂.2.places (place_at n.spot) n.placed in
-    let v₃ = c.word-head.new.seat.view in
-    let r₃ = c.word-head.ensures.seat.others in
-    let rest₃ = ap (λ s. s.view) r₃ in
-    let first = get_or words₂ 0 c.index-other-0.result in
-    let at_k = (first_word (place_at n.spot) b₂ words₂ o₂.are first c.index-other-0.result refl).0 in
-    let number = g.N.Above.number in
-    let bound = g.N.Above.word in
-    may_part v c.args.mismatch.below number bound up_there n v₂ b₂ words₂ t₂ told₂.2 told₂.3 o₂ v₃ rest₃ first.key at_k c.word-head.new.seat.id (t₂ / 4) (omega (arith, free₂))
+    let free = c.in-Some.ensures.opened.0 in
+    may_part (lower g (goal.at.check-requires-clause-learns g c).After-word-head c.index-other-0.result) c.word-head.new.seat.id (c.in-Some.other.taken / 4) (omega (arith, free))
 
 pub returns-then-not-check-clause-told : goal.returns-then-not-check-clause-told
-returns-then-not-check-clause-told g c =
-    let v = c.args.seat.now.view in
-    let n = c.requires.below in
-    let up_there = c.requires.above in
-    let v₂ = c.open.new.seat.view in
-    let told₂ = c.open.ensures.told in
-    let b₂ = c.open.new.seat.book in
-    let words₂ = c.in-Some.other.words.now in
-    let t₂ = c.in-Some.other.taken in
-    let o₂ = c.in-Some.ensures.opened.1 n in
-    let free₂ = c.in-Some.ensures.opened.0 in
-    let placed₂ = told₂.2.places (place_at n.spot) n.placed in
-    let v₃ = c.word-head.new.seat.view in
-    let r₃ = c.word-head.ensures.seat.others in
-    let rest₃ = ap (λ s. s.view) r₃ in
-    let first = get_or words₂ 0 c.index-other-0.result in
-    let at_k = (first_word (place_at n.spot) b₂ words₂ o₂.are first c.index-other-0.result refl).0 in
-    let number = g.N.Above.number in
-    let bound = g.N.Above.word in
-    let e = c.check.ensures.told in
-    let s = c.check.ensures.seat in
-    let w = c.check.new.seat.view in
-    let book = s.0 ∙ (ap (λ s. s.book) r₃ ∙ told₂.0) in
-    let id = s.1 ∙ (ap (λ s. s.id) r₃ ∙ told₂.1) in
-    let k = part_missed v c.args.mismatch.below number bound up_there n v₂ b₂ words₂ t₂ told₂.2 told₂.3 o₂ v₃ rest₃ first.key at_k w e.0 e.2 (search rules) in
-    (book, id, keeps_then v v₂ w told₂.2 k.0, ap (λ (z : View). z.seen) (k.1 ∙ told₂.3))
+returns-then-not-check-clause-told g c = kept g (goal.at.returns-then-not-check-clause-told g c).After-check (part_missed (at_check g (goal.at.returns-then-not-check-clause-told g c).After-check) c.check.new.seat.view c.check.ensures.told.0 c.check.ensures.told.2 (search rules))
 
 pub returns-in_default-compare-clause-told : goal.returns-in_default-compare-clause-told
-returns-in_default-compare-clause-told g c =
-    let v = c.args.seat.now.view in
-    let n = c.requires.below in
-    let up_there = c.requires.above in
-    let v₂ = c.open.new.seat.view in
-    let told₂ = c.open.ensures.told in
-    let b₂ = c.open.new.seat.book in
-    let words₂ = c.in-Some.other.words.now in
-    let t₂ = c.in-Some.other.taken in
-    let o₂ = c.in-Some.ensures.opened.1 n in
-    let free₂ = c.in-Some.ensures.opened.0 in
-    let placed₂ = told₂.2.places (place_at n.spot) n.placed in
-    let v₃ = c.word-head.new.seat.view in
-    let r₃ = c.word-head.ensures.seat.others in
-    let rest₃ = ap (λ s. s.view) r₃ in
-    let first = get_or words₂ 0 c.index-other-0.result in
-    let at_k = (first_word (place_at n.spot) b₂ words₂ o₂.are first c.index-other-0.result refl).0 in
-    let number = g.N.Above.number in
-    let bound = g.N.Above.word in
-    let e = c.check.ensures.told in
-    let s = c.check.ensures.seat in
-    let w = c.check.new.seat.view in
-    let book = s.0 ∙ (ap (λ s. s.book) r₃ ∙ told₂.0) in
-    let id = s.1 ∙ (ap (λ s. s.id) r₃ ∙ told₂.1) in
-    let k = part_keeps v c.args.mismatch.below number bound up_there n v₂ b₂ words₂ t₂ told₂.2 told₂.3 o₂ v₃ rest₃ first.key at_k w e.0 e.2 (search rules) in
-    (book, id, keeps_then v v₂ w told₂.2 k.0, k.1 ∙ ap (λ (z : View). z.seen) told₂.3)
+returns-in_default-compare-clause-told g c = held g (goal.at.returns-in_default-compare-clause-told g c).After-check (search rules)
 
 pub returns-then-at-mismatch-clause-told : goal.returns-then-at-mismatch-clause-told
-returns-then-at-mismatch-clause-told g c =
-    let v = c.args.seat.now.view in
-    let n = c.requires.below in
-    let up_there = c.requires.above in
-    let v₂ = c.open.new.seat.view in
-    let told₂ = c.open.ensures.told in
-    let b₂ = c.open.new.seat.book in
-    let words₂ = c.in-Some.other.words.now in
-    let t₂ = c.in-Some.other.taken in
-    let o₂ = c.in-Some.ensures.opened.1 n in
-    let free₂ = c.in-Some.ensures.opened.0 in
-    let placed₂ = told₂.2.places (place_at n.spot) n.placed in
-    let v₃ = c.word-head.new.seat.view in
-    let r₃ = c.word-head.ensures.seat.others in
-    let rest₃ = ap (λ s. s.view) r₃ in
-    let first = get_or words₂ 0 c.index-other-0.result in
-    let at_k = (first_word (place_at n.spot) b₂ words₂ o₂.are first c.index-other-0.result refl).0 in
-    let number = g.N.Above.number in
-    let bound = g.N.Above.word in
-    let e = c.check.ensures.told in
-    let s = c.check.ensures.seat in
-    let w = c.check.new.seat.view in
-    let book = s.0 ∙ (ap (λ s. s.book) r₃ ∙ told₂.0) in
-    let id = s.1 ∙ (ap (λ s. s.id) r₃ ∙ told₂.1) in
-    let k = part_keeps v c.args.mismatch.below number bound up_there n v₂ b₂ words₂ t₂ told₂.2 told₂.3 o₂ v₃ rest₃ first.key at_k w e.0 e.2 (search rules) in
-    (book, id, keeps_then v v₂ w told₂.2 k.0, k.1 ∙ ap (λ (z : View). z.seen) told₂.3)
+returns-then-at-mismatch-clause-told g c = held g (goal.at.returns-then-at-mismatch-clause-told g c).After-check (search rules)
 
 pub returns-else-at-mismatch-clause-told : goal.returns-else-at-mismatch-clause-told
-returns-else-at-mismatch-clause-told g c =
-    let v = c.args.seat.now.view in
-    let n = c.requires.below in
-    let up_there = c.requires.above in
-    let v₂ = c.open.new.seat.view in
-    let told₂ = c.open.ensures.told in
-    let b₂ = c.open.new.seat.book in
-    let words₂ = c.in-Some.other.words.now in
-    let t₂ = c.in-Some.other.taken in
-    let o₂ = c.in-Some.ensures.opened.1 n in
-    let free₂ = c.in-Some.ensures.opened.0 in
-    let placed₂ = told₂.2.places (place_at n.spot) n.placed in
-    let v₃ = c.word-head.new.seat.view in
-    let r₃ = c.word-head.ensures.seat.others in
-    let rest₃ = ap (λ s. s.view) r₃ in
-    let first = get_or words₂ 0 c.index-other-0.result in
-    let at_k = (first_word (place_at n.spot) b₂ words₂ o₂.are first c.index-other-0.result refl).0 in
-    let number = g.N.Above.number in
-    let bound = g.N.Above.word in
-    let e = c.check.ensures.told in
-    let s = c.check.ensures.seat in
-    let w = c.check.new.seat.view in
-    let book = s.0 ∙ (ap (λ s. s.book) r₃ ∙ told₂.0) in
-    let id = s.1 ∙ (ap (λ s. s.id) r₃ ∙ told₂.1) in
-    let k = part_keeps v c.args.mismatch.below number bound up_there n v₂ b₂ words₂ t₂ told₂.2 told₂.3 o₂ v₃ rest₃ first.key at_k w e.0 e.2 (search rules) in
-    (book, id, keeps_then v v₂ w told₂.2 k.0, k.1 ∙ ap (λ (z : View). z.seen) told₂.3)
+returns-else-at-mismatch-clause-told g c = held g (goal.at.returns-else-at-mismatch-clause-told g c).After-check (search rules)
 
 pub returns-then-at-mismatch-clause-parted : goal.returns-then-at-mismatch-clause-parted
 returns-then-at-mismatch-clause-parted g c = λ yes.
-    let v = c.args.seat.now.view in
-    let n = c.requires.below in
-    let up_there = c.requires.above in
-    let v₂ = c.open.new.seat.view in
-    let told₂ = c.open.ensures.told in
-    let b₂ = c.open.new.seat.book in
-    let words₂ = c.in-Some.other.words.now in
-    let t₂ = c.in-Some.other.taken in
-    let o₂ = c.in-Some.ensures.opened.1 n in
-    let free₂ = c.in-Some.ensures.opened.0 in
-    let placed₂ = told₂.2.places (place_at n.spot) n.placed in
-    let v₃ = c.word-head.new.seat.view in
-    let r₃ = c.word-head.ensures.seat.others in
-    let rest₃ = ap (λ s. s.view) r₃ in
-    let first = get_or words₂ 0 c.index-other-0.result in
-    let at_k = (first_word (place_at n.spot) b₂ words₂ o₂.are first c.index-other-0.result refl).0 in
-    let number = g.N.Above.number in
-    let bound = g.N.Above.word in
-    let e = c.check.ensures.told in
-    let s = c.check.ensures.seat in
-    let w = c.check.new.seat.view in
-    let book = s.0 ∙ (ap (λ s. s.book) r₃ ∙ told₂.0) in
-    let id = s.1 ∙ (ap (λ s. s.id) r₃ ∙ told₂.1) in
     let key = c.args.key in
-    let prefix_match : c.compare.result ≡ prefix_matches.Leaves c.in-Leaves.at c.in-Leaves.byte = c.in-Leaves.is in
-    let sees = λ (form : ℕ) (q : List ℕ) (h : IsHead c.word-head.result form q). subst (Sees q key) prefix_match (c.compare.ensures form q h) in
-    let parted = part_parts v c.args.mismatch.below number bound up_there n v₂ b₂ words₂ t₂ told₂.2 told₂.3 o₂ v₃ rest₃ first.key at_k w e.0 e.2 (search rules) c.word-head.result (λ content agrees. (c.word-head.ensures.read content agrees).0) key c.ranges.key.fits c.in-Leaves.at c.in-Leaves.byte sees in
+    let leaves : c.compare.result ≡ prefix_matches.Leaves c.in-Leaves.at c.in-Leaves.byte = c.in-Leaves.is in
+    let sees = λ (form : ℕ) (q : List ℕ) (h : IsHead c.word-head.result form q). subst (Sees q key) leaves (c.compare.ensures form q h) in
+    let parted = part_parts (at_check g (goal.at.returns-then-at-mismatch-clause-parted g c).After-check) c.check.new.seat.view c.check.ensures.told.0 c.check.ensures.told.2 (search rules) c.word-head.result (λ content agrees. (c.word-head.ensures.read content agrees).0) key c.ranges.key.fits c.in-Leaves.at c.in-Leaves.byte sees in
     let same_at : c.in-Leaves.at ≡ c.args.mismatch.at = search rules in
     let same_byte : c.in-Leaves.byte ≡ c.args.mismatch.byte = search rules in
-    subst (λ (z : ℕ × ℕ). IsParted w c.args.mismatch.below key z.0 z.1 number) (λ i. (same_at i, same_byte i)) parted
+    subst (λ (z : ℕ × ℕ). IsParted c.check.new.seat.view c.args.mismatch.below key z.0 z.1 g.N.Above.number) (λ i. (same_at i, same_byte i)) parted
