@@ -21,7 +21,7 @@ use Rattle.live_law.proofs.Looks.{node_below, node_misses, HadBelow}
 use Rattle.live_law.proofs.Plans.{bytes_above-key, joined, digit-low}
 use Rattle.live_reads.specs.Paths.{Sights, HasOpened, IsOpen, Keeps}
 use Rattle.live_reads.specs.Sees.{Sees}
-use Rattle.live_reads.specs.Mismatches.{IsMismatched, IsAbove, IsParted}
+use Rattle.live_reads.specs.Mismatches.{IsMismatched, IsAside, IsAbove, IsParted}
 use Rattle.live_reads.specs.declared.prefix_match.PrefixMatch.TheVariants as prefix_matches
 use Rattle.live_reads.proofs.Views.{reading_on, reading_on_keeps, learned_keeps, open_read, may_check_open, open_checked, open_missed, same_named}
 use Rattle.live_reads.proofs.Sights.{leaves_lower, leaves_top, leaves_byte}
@@ -122,39 +122,44 @@ module _ (v : Seen) (b : Book) (words : List Name) (t name key height : ℕ) (o 
             )
 
         -- and the key leaves it
-        pub watch_mismatches : (b' : Book) → AreOf (place_at a) b' words → (head : ℕ) → ((c : Content) → Agree c saw₃ → cells.at c 0 ≡ head) → key < 2 ^ 64 → (h byte : ℕ) → ((form : ℕ) (p : List ℕ) → IsHead head form p → Sees p key (prefix_matches.Leaves h byte))
-            → IsMismatched w b' words t name key height
-        watch_mismatches b' are head at_head fits lv byte sees =
+        pub watch_asides : (b' : Book) → AreOf (place_at a) b' words → (head : ℕ) → ((c : Content) → Agree c saw₃ → cells.at c 0 ≡ head) → key < 2 ^ 64 → (h byte : ℕ) → ((form : ℕ) (p : List ℕ) → IsHead head form p → Sees p key (prefix_matches.Leaves h byte))
+            → IsAside w b' words t name key height h byte
+        watch_asides b' are head at_head fits lv byte sees =
             let h = watch_checked.hit hit in
             let x : Watches a.number (Some t) v₂.client n.spot saw₃ h.1 = h.3 n.spot (keeps₂.met n.spot n.met) refl in
             let kw = (keeps_then v v₁ w find_keeps.0 (keeps_then v₁ v₂ w keeps₂ watch_keeps.0)) in
             let p = x.is.its.prefix in
             let word_is : IsHead head (form_place x.is.its.form) p = subst (λ (z : ℕ). IsHead z (form_place x.is.its.form) p) (at_head x.is.content x.is.agrees) x.is.encodes.head in
+            let s = sees (form_place x.is.its.form) p word_is in
             let e = watch a.number (Some t) (spot n.spot.number x.shape) in
             let apart : a.number ≢ n.spot.number = λ same. other_name (n.named ∙ (sym (x.one_name a (keeps₂.met a (find_keeps.0.met a o.names.met)) same) ∙ sym o.names.named)) in
             let w_reads : w.reads ≡ read n.spot.number t₂ saw₃ ∷ read a.number t saw ∷ o.opened.before = ap (λ (z : Seen). z.reads) h.2 ∙ ap (λ (rs : List Read). read n.spot.number t₂ saw₃ ∷ rs) reads_are in
             record {
-              names = record {
-                spot = a;
-                met = kw.met a o.names.met;
-                placed = kw.places (place_at a) o.names.placed;
-                named = o.names.named;
-                high = o.names.high;
-                covers = o.names.covers;
+              mismatched = record {
+                names = record {
+                  spot = a;
+                  met = kw.met a o.names.met;
+                  placed = kw.places (place_at a) o.names.placed;
+                  named = o.names.named;
+                  high = o.names.high;
+                  covers = o.names.covers;
+                };
+                are = are;
+                saw = saw;
+                reads = ap (read_of a.number) w_reads ∙ read_second n.spot.number a.number (read n.spot.number t₂ saw₃) (read a.number t saw) o.opened.before refl refl apart;
+                free = o.free;
+                sure = sure_now;
+                word = word;
+                finds = finds;
+                watch = e;
+                known = subst (λ (z : Seen). IsIn e z.client.watched) (sym h.2) (subst (λ (z : View). IsIn e z.watched) (sym x.watches) (inl refl));
+                above = refl;
+                free_by = refl;
+                spells = λ s is. is_child s is ∙ (n.named ∙ sym (same_named n.spot x.shape x.is.now));
+                leaves = leaves_by p x.shape key lv byte s x.is.prefixed x.is.deep fits;
               };
-              are = are;
-              saw = saw;
-              reads = ap (read_of a.number) w_reads ∙ read_second n.spot.number a.number (read n.spot.number t₂ saw₃) (read a.number t saw) o.opened.before refl refl apart;
-              free = o.free;
-              sure = sure_now;
-              word = word;
-              finds = finds;
-              watch = e;
-              known = subst (λ (z : Seen). IsIn e z.client.watched) (sym h.2) (subst (λ (z : View). IsIn e z.watched) (sym x.watches) (inl refl));
-              above = refl;
-              free_by = refl;
-              spells = λ s is. is_child s is ∙ (n.named ∙ sym (same_named n.spot x.shape x.is.now));
-              leaves = leaves_by p x.shape key lv byte (sees (form_place x.is.its.form) p word_is) x.is.prefixed x.is.deep fits;
+              lower = leaves_lower p x.shape key fits x.is.deep x.is.prefixed lv byte s.0 s.1 s.2 s.3 s.6;
+              byte_is = leaves_byte p x.shape key fits x.is.deep x.is.prefixed lv byte s.0 s.1 s.2 s.3 s.6;
             }
 
 -- The node above is checked again, and the call has its answer.

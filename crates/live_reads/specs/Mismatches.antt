@@ -37,6 +37,12 @@ pub record IsMismatched (v : SeatView View) (b : Book) (words : List Name) (take
   pub spells : (s : ℕ) → IsWord word (Node s) → s ≡ name_of watch.spot.shape
   pub leaves : Covers watch.spot.shape key → ⊥
 
+-- And the bytes above the watched node are the key's down to this height, and then this byte.
+pub record IsAside (v : SeatView View) (b : Book) (words : List Name) (taken name key height at byte : ℕ) : Type 0 where
+  pub mismatched : IsMismatched v b words taken name key height
+  pub lower : mismatched.watch.spot.shape.height < at
+  pub byte_is : bytes_above mismatched.watch.spot.shape (at - 1) ≡ 256 * up at key + byte
+
 -- the node that was locked last
 abbrev pub first_held : List Hold → ℕ
 first_held [] = 0

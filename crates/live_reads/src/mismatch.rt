@@ -1,9 +1,9 @@
 //! A node that leads on to one whose path a key leaves: there the key's path ends.
-ghost use Rattle.std.specs.Prelude.{◌≡◌, ◌≤◌, Some, None, false, IsTrue};
+ghost use Rattle.std.specs.Prelude.{◌≡◌, ◌≤◌, Some, None, false, IfSome, IsTrue};
 ghost use Rattle.live_law.specs.Views.{got};
 ghost use Rattle.live_law.specs.Tree.{Answers};
 ghost use Rattle.live_reads.specs.Paths.{Sights, IsOpen, Keeps};
-ghost use Rattle.live_reads.specs.Mismatches.{first_number, IsMismatched, IsAbove, IsParted};
+ghost use Rattle.live_reads.specs.Mismatches.{first_number, IsAside, IsAbove, IsParted};
 
 use crate::path::{Nodes, Opened, Seat, byte_at, open};
 use crate::prefix_match::{Mismatch, PrefixMatch, compare, enter};
@@ -15,8 +15,8 @@ use live_nodes::node;
 use live_nodes::rows::SharedWords;
 use std::marker::Brand;
 
-/// Whether an open node leads on to one whose path the key leaves. While the open one is as it was, so is that. `false` where
-/// a writer came in between.
+/// How a key leaves the path of a node that an open one leads on to. While the open one is as it was, so is that. `None` where a
+/// writer came in between.
 pub fn watch<N: Above>(
     nodes: &Nodes,
     here: Opened<'_>,
@@ -25,7 +25,7 @@ pub fn watch<N: Above>(
     below: u64,
     key: u64,
     seat: &mut Seat,
-) -> bool
+) -> Option<Mismatch>
     requires book { seat.old.book ≡ nodes.now }
     requires open { IsOpen seat.old.view seat.old.book here.words.now here.taken name key height }
     requires height { (2 ≤ height) × (height ≤ 8) }
@@ -34,33 +34,33 @@ pub fn watch<N: Above>(
     ensures told { (seat.new.book ≡ seat.old.book) × (seat.new.id ≡ seat.old.id)
         × Keeps seat.old.view seat.new.view
         × (seat.new.view.client.seen ≡ seat.old.view.client.seen) }
-    ensures mismatched { IsTrue result
-        → IsMismatched seat.new.view seat.new.book here.entry.words.now here.entry.taken name key height }
+    ensures aside { IfSome result (λ mismatch. IsAside seat.new.view seat.new.book
+        here.entry.words.now here.entry.taken name key height mismatch.at mismatch.byte) }
 {
     let Opened { words, taken: _ } = here;
     let form = form_below(name);
     let byte = byte_at(key, height);
     let row = SharedWords { words };
     let Some(word) = find(&row, form, byte, seat) else {
-        return false;
+        return None;
     };
     if slot_below(word) != below {
-        return false;
+        return None;
     }
     if below == name {
-        return false;
+        return None;
     }
     let Some(other) = open(nodes, below, seat) else {
-        return false;
+        return None;
     };
     let lower = SharedWords { words: other.words };
     let head = lower.word(0, seat);
     if !node::check::<MapView, MapLaw, Below<N>>(&other.words[0], other.taken, seat) {
-        return false;
+        return None;
     }
     match compare(head, key) {
-        PrefixMatch::Leaves(_, _) => true,
-        PrefixMatch::Covers(_) => false,
+        PrefixMatch::Leaves(at, byte) => Some(Mismatch { below, at, byte }),
+        PrefixMatch::Covers(_) => None,
     }
 }
 
@@ -87,9 +87,9 @@ pub fn ends_above<A: Asks>(
     let Some(here) = enter(nodes, name, height, key, seat) else {
         return false;
     };
-    if !watch::<Brand>(nodes, here, name, height, below, key, seat) {
+    let Some(_) = watch::<Brand>(nodes, here, name, height, below, key, seat) else {
         return false;
-    }
+    };
     node::check::<MapView, MapLaw, Miss<A>>(&here.words[0], here.taken, seat)
 }
 

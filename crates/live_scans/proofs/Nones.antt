@@ -13,9 +13,8 @@ use Rattle.live_law.specs.Views.{View}
 use Rattle.live_law.specs.Tree.{IsOfKind}
 use Rattle.live_law.proofs.Plans.{bytes_above-key, joined, digit-low}
 use Rattle.live_reads.specs.Paths.{Names}
-use Rattle.live_reads.specs.Mismatches.{IsMismatched}
+use Rattle.live_reads.specs.Mismatches.{IsMismatched, IsAside}
 use Rattle.live_scans.specs.inner.Moments.{HasUnder, IsRead, HasNone, IsWithin, IsBeside, ReadsOn}
-use Rattle.live_scans.specs.inner.Mismatches.{IsAside}
 use Rattle.live_scans.proofs.Uppers.{up-rises}
 use Rattle.live_scans.proofs.Composed.{one_moment}
 

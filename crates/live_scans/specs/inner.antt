@@ -1,5 +1,4 @@
 pub mod Moments
-pub mod Mismatches
 pub mod Steps
 pub mod Stops
 pub mod Nexts

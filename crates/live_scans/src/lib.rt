@@ -15,7 +15,6 @@ pub mod counts;
 pub mod floors;
 pub mod keys;
 pub mod laws;
-pub mod mismatch;
 pub mod next;
 pub mod on_check;
 pub mod page;

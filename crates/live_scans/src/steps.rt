@@ -4,13 +4,13 @@ ghost use Rattle.live_layout.specs.Page.{pairs_of};
 ghost use Rattle.live_reads.specs.Paths.{Names, Leaves, Keeps};
 ghost use Rattle.live_scans.specs.inner.Moments.{SeesMore, HasNone, IsBeside, ReadsOn};
 
-use crate::mismatch::watch;
 use crate::on_check::Whole;
 use live_law::law::{Asks, MapLaw, MapView};
 use live_layout::form::form_below;
 use live_layout::page::{Filled, Part, RangeEntry, fill};
 use live_nodes::node;
 use live_nodes::rows::SharedWords;
+use live_reads::mismatch::watch;
 use live_reads::path::{Nodes, Opened, Seat};
 use live_reads::prefix_match::{Mismatch, enter};
 use std::marker::Brand;
@@ -39,7 +39,10 @@ pub fn leads_aside<A: Asks>(
     let Some(here) = enter(nodes, name, height, key, seat) else {
         return false;
     };
-    if !watch::<Brand>(nodes, here, name, height, mismatch, key, seat) {
+    let Some(now) = watch::<Brand>(nodes, here, name, height, mismatch.below, key, seat) else {
+        return false;
+    };
+    if now.at != mismatch.at || now.byte != mismatch.byte {
         return false;
     }
     node::check::<MapView, MapLaw, Whole<A>>(&here.words[0], here.taken, seat)

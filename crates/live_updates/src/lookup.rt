@@ -119,9 +119,9 @@ fn leads_aside<Q: Lookups>(
         × Keeps seat.old.view seat.new.view
         × Lacks Q.lookup result seat.old.view seat.new.view }
 {
-    if !watch::<Brand>(nodes, here, name, height, below, key, seat) {
+    let Some(_) = watch::<Brand>(nodes, here, name, height, below, key, seat) else {
         return false;
-    }
+    };
     node::check::<MapView, MapLaw, Learn<Q>>(&here.words[0], here.taken, seat)
 }
 

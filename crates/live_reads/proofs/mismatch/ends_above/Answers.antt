@@ -31,12 +31,12 @@ module _ (g : Over) (c : After-watch g) where
   at_first f d = (first_word (place_at f.names.spot) c.watch.new.seat.book c.in-Some.here.words.now f.are (get_or c.in-Some.here.words.now 0 d) d refl).0
 
 -- and the word of the node above is compared
-module _ (g : Over) (c : After-check g) (hits : IsTrue c.watch.result) where
+module _ (g : Over) (c : After-check g) where
   abbrev w : After-watch g
   w = (goal.at.After-check g c).After-watch
 
   abbrev f : Mismatched g w
-  f = c.watch.ensures.mismatched hits
+  f = c.in-Some-watch.ensures.aside.mismatched
 
   lost : c.check.ensures.told.0 ≢ c.in-Some.here.taken → Keeps c.watch.new.seat.view c.check.new.seat.view × (c.check.new.seat.view.client.seen ≡ c.watch.new.seat.view.client.seen)
   lost = miss_lost c.watch.new.seat.view c.watch.new.seat.book c.in-Some.here.words.now c.in-Some.here.taken c.args.name c.args.key c.args.height f c.requires.height.0 _ (at_first g w f c.index-here-0.result) g.A.Asks.ask c.requires.asks.0 c.check.new.seat.view c.check.ensures.told.0 c.check.ensures.told.2
@@ -47,13 +47,13 @@ module _ (g : Over) (c : After-check g) (hits : IsTrue c.watch.result) where
 pub watch-requires-clause-below : goal.watch-requires-clause-below
 watch-requires-clause-below g c = sights_kept c.args.seat.now.view c.enter.new.seat.view c.enter.ensures.told.2 c.args.below c.requires.sighted.1
 
-pub returns-then-not-watch-clause-told : goal.returns-then-not-watch-clause-told
-returns-then-not-watch-clause-told g c = (c.watch.ensures.told.0 ∙ c.enter.ensures.told.0, c.watch.ensures.told.1 ∙ c.enter.ensures.told.1, kept g (goal.at.returns-then-not-watch-clause-told g c).After-watch)
+pub returns-in_default-watch-clause-told : goal.returns-in_default-watch-clause-told
+returns-in_default-watch-clause-told g c = (c.watch.ensures.told.0 ∙ c.enter.ensures.told.0, c.watch.ensures.told.1 ∙ c.enter.ensures.told.1, kept g (goal.at.returns-in_default-watch-clause-told g c).After-watch)
 
 pub check-requires-clause-learns : goal.check-requires-clause-learns
 check-requires-clause-learns g c =
     let w = (goal.at.check-requires-clause-learns g c).After-watch in
-    let f = c.watch.ensures.mismatched (search rules) in
+    let f = c.in-Some-watch.ensures.aside.mismatched in
     let free = f.free in
     may_miss c.watch.new.seat.view c.watch.new.seat.book c.in-Some.here.words.now c.in-Some.here.taken c.args.name c.args.key c.args.height f c.requires.height.0 _ (at_first g w f c.index-here-0.result) g.A.Asks.ask c.requires.asks.0
     c.watch.new.seat.id (c.in-Some.here.taken / 4) (c.requires.asks.1 ∙ sym (c.watch.ensures.told.1 ∙ c.enter.ensures.told.1)) (omega (arith, free))
@@ -62,17 +62,17 @@ pub returns-clause-told : goal.returns-clause-told
 returns-clause-told g c =
     let k = (goal.at.returns-clause-told g c).After-check in
     let t = c.check.ensures.told.0 in
-    let keeps = dite (ℕ_discrete t c.in-Some.here.taken) (λ hit. (ends g k (search rules) hit).0) (λ ne. (lost g k (search rules) ne).0) in (
+    let keeps = dite (ℕ_discrete t c.in-Some.here.taken) (λ hit. (ends g k hit).0) (λ ne. (lost g k ne).0) in (
       c.check.ensures.seat.0 ∙ (c.watch.ensures.told.0 ∙ c.enter.ensures.told.0),
       c.check.ensures.seat.1 ∙ (c.watch.ensures.told.1 ∙ c.enter.ensures.told.1),
-      keeps_then c.args.seat.now.view c.watch.new.seat.view c.check.new.seat.view (kept g (w g k (search rules))) keeps,
+      keeps_then c.args.seat.now.view c.watch.new.seat.view c.check.new.seat.view (kept g (w g k)) keeps,
     )
 
 pub returns-clause-ends : goal.returns-clause-ends
 returns-clause-ends g c = λ yes.
     subst (λ (z : List (Entry ℕ)). Answers g.A.Asks.ask.caller (got g.A.Asks.ask None) z c.check.new.seat.view.client.seen) (c.watch.ensures.told.3 ∙ c.enter.ensures.told.3)
-    (ends g (goal.at.returns-clause-ends g c).After-check (search rules) (c.check.ensures.told.1.0 yes)).1
+    (ends g (goal.at.returns-clause-ends g c).After-check (c.check.ensures.told.1.0 yes)).1
 
 pub returns-clause-busy : goal.returns-clause-busy
 returns-clause-busy g c = λ off.
-    (lost g (goal.at.returns-clause-busy g c).After-check (search rules) (λ hit. not_both c.check.result off (c.check.ensures.told.1.1 hit))).1 ∙ (c.watch.ensures.told.3 ∙ c.enter.ensures.told.3)
+    (lost g (goal.at.returns-clause-busy g c).After-check (λ hit. not_both c.check.result off (c.check.ensures.told.1.1 hit))).1 ∙ (c.watch.ensures.told.3 ∙ c.enter.ensures.told.3)

@@ -19,7 +19,7 @@ use Rattle.live_reads.specs.declared.prefix_match.PrefixMatch.TheVariants as pre
 use Rattle.live_reads.proofs.Finds.{keeps_then}
 use Rattle.live_reads.proofs.Views.{first_word, may_read_open, open_long, open_read, reading_on_keeps}
 use Rattle.live_reads.proofs.Sights.{sights_kept}
-use Rattle.live_reads.proofs.Mismatches.{may_watch, watch_missed, watch_keeps, watch_mismatches}
+use Rattle.live_reads.proofs.Mismatches.{may_watch, watch_missed, watch_keeps, watch_asides}
 use Rattle.live_reads.proofs.mismatch.watch.Given.{Over}
 use Rattle.live_reads.proofs.mismatch.watch.Goals as goal
 use Rattle.live_reads.proofs.mismatch.watch.Goals.{After-find, In-Some-open, After-index-other-0, After-check}
@@ -36,6 +36,9 @@ module _ (g : Over) (c : After-find g) where
 
   abbrev sighted : Sights c.find.new.seat.view c.args.below
   sighted = sights_kept c.args.seat.now.view c.find.new.seat.view read_first.0 c.args.below c.requires.below
+
+  found_none : (c.find.new.seat.book ≡ c.args.seat.now.book) × (c.find.new.seat.id ≡ c.args.seat.now.id) × Keeps c.args.seat.now.view c.find.new.seat.view × (c.find.new.seat.view.client.seen ≡ c.args.seat.now.view.client.seen)
+  found_none = let r = c.find.ensures.seat.others in (ap (λ s. s.book) r, ap (λ s. s.id) r, read_first.0, ap (λ (z : View). z.seen) read_first.1)
 
 -- THE NODE BELOW is open
 module _ (g : Over) (c : In-Some-open g) where
@@ -113,19 +116,13 @@ find-requires g c =
     record { cells = (may_read_open c.args.seat.now.view c.args.seat.now.book c.args.here.words.now c.args.here.taken spot o.names.placed o.opened, omega (arith, l, e)) }
 
 pub returns-in_default-clause-told : goal.returns-in_default-clause-told
-returns-in_default-clause-told g c =
-    let r = c.find.ensures.seat.others in let k = read_first g (goal.at.returns-in_default-clause-told g c).After-find in
-    (ap (λ s. s.book) r, ap (λ s. s.id) r, k.0, ap (λ (z : View). z.seen) k.1)
+returns-in_default-clause-told g c = found_none g (goal.at.returns-in_default-clause-told g c).After-find
 
 pub returns-then-slot_below-below-clause-told : goal.returns-then-slot_below-below-clause-told
-returns-then-slot_below-below-clause-told g c =
-    let r = c.find.ensures.seat.others in let k = read_first g (goal.at.returns-then-slot_below-below-clause-told g c).After-find in
-    (ap (λ s. s.book) r, ap (λ s. s.id) r, k.0, ap (λ (z : View). z.seen) k.1)
+returns-then-slot_below-below-clause-told g c = found_none g (goal.at.returns-then-slot_below-below-clause-told g c).After-find
 
 pub returns-then-below-name-clause-told : goal.returns-then-below-name-clause-told
-returns-then-below-name-clause-told g c =
-    let r = c.find.ensures.seat.others in let k = read_first g (goal.at.returns-then-below-name-clause-told g c).After-find in
-    (ap (λ s. s.book) r, ap (λ s. s.id) r, k.0, ap (λ (z : View). z.seen) k.1)
+returns-then-below-name-clause-told g c = found_none g (goal.at.returns-then-below-name-clause-told g c).After-find
 
 pub open-requires-clause-book : goal.open-requires-clause-book
 open-requires-clause-book g c = ap (λ s. s.book) c.find.ensures.seat.others ∙ c.requires.book
@@ -164,24 +161,24 @@ returns-then-not-check-clause-told g c =
     c.word-head.new.seat.view (ap (λ s. s.view) c.word-head.ensures.seat.others) (first_key g h) (at_key g h) c.check.new.seat.view c.check.ensures.told.0 (told g a) (search rules) in
     (book_then g a, id_then g a, keeps_then v c.open.new.seat.view c.check.new.seat.view (keeps_open g op) k.0, ap (λ (z : View). z.seen) k.1 ∙ seen_open g op)
 
-pub returns-in-Leaves-clause-told : goal.returns-in-Leaves-clause-told
-returns-in-Leaves-clause-told g c =
-    let a = (goal.at.returns-in-Leaves-clause-told g c).After-check in let k = kept g a (search rules) in
-    (book_then g a, id_then g a, k.0, k.1)
-
 pub returns-in-Covers-clause-told : goal.returns-in-Covers-clause-told
 returns-in-Covers-clause-told g c =
     let a = (goal.at.returns-in-Covers-clause-told g c).After-check in let k = kept g a (search rules) in
     (book_then g a, id_then g a, k.0, k.1)
 
-pub returns-in-Leaves-clause-mismatched : goal.returns-in-Leaves-clause-mismatched
-returns-in-Leaves-clause-mismatched g c = λ _.
-    let a = (goal.at.returns-in-Leaves-clause-mismatched g c).After-check in
+pub returns-in-Leaves-clause-told : goal.returns-in-Leaves-clause-told
+returns-in-Leaves-clause-told g c =
+    let a = (goal.at.returns-in-Leaves-clause-told g c).After-check in let k = kept g a (search rules) in
+    (book_then g a, id_then g a, k.0, k.1)
+
+pub returns-in-Leaves-clause-aside : goal.returns-in-Leaves-clause-aside
+returns-in-Leaves-clause-aside g c =
+    let a = (goal.at.returns-in-Leaves-clause-aside g c).After-check in
     let h = head_of g a in let op = opened g h in
     let o = c.requires.open in let v = c.args.seat.now.view in
-    let prefix_match : c.compare.result ≡ prefix_matches.Leaves c.in-Leaves.field-0 c.in-Leaves.field-1 = c.in-Leaves.is in
+    let prefix_match : c.compare.result ≡ prefix_matches.Leaves c.in-Leaves.at c.in-Leaves.byte = c.in-Leaves.is in
     let sees = λ (form : ℕ) (p : List ℕ) (is : IsHead c.word-head.result form p). subst (Sees p c.args.key) prefix_match (c.compare.ensures form p is) in
-    watch_mismatches v c.args.seat.now.book c.args.here.words.now c.args.here.taken c.args.name c.args.key c.args.height o c.requires.height.0 c.find.new.seat.view (ap (λ s. s.view) c.find.ensures.seat.others) c.find.ensures.kept c.in-Some.word (finds g h)
+    watch_asides v c.args.seat.now.book c.args.here.words.now c.args.here.taken c.args.name c.args.key c.args.height o c.requires.height.0 c.find.new.seat.view (ap (λ s. s.view) c.find.ensures.seat.others) c.find.ensures.kept c.in-Some.word (finds g h)
     c.args.below (n g op) (is_child g h) c.if-below-name.false c.open.new.seat.view c.open.new.seat.book c.in-Some-open.other.words.now c.in-Some-open.other.taken c.open.ensures.told.2 c.open.ensures.told.3 (below_open g op) (c.in-Some-open.ensures.taken (n g op))
     c.word-head.new.seat.view (ap (λ s. s.view) c.word-head.ensures.seat.others) (first_key g h) (at_key g h) c.check.new.seat.view c.check.ensures.told.0 (told g a) (search rules)
-    c.check.new.seat.book (subst (λ z. AreOf (place_at o.names.spot) z c.args.here.words.now) (sym (book_then g a)) o.opened.are) c.word-head.result (λ content agrees. (c.word-head.ensures.read content agrees).0) c.ranges.key.fits c.in-Leaves.field-0 c.in-Leaves.field-1 sees
+    c.check.new.seat.book (subst (λ z. AreOf (place_at o.names.spot) z c.args.here.words.now) (sym (book_then g a)) o.opened.are) c.word-head.result (λ content agrees. (c.word-head.ensures.read content agrees).0) c.ranges.key.fits c.in-Leaves.at c.in-Leaves.byte sees

@@ -11,7 +11,7 @@ pub check-requires-clause-learns : goal.check-requires-clause-learns
 check-requires-clause-learns g c =
     let w = c.watch.new.seat.view in
     let s = c.watch.ensures.told in
-    let f = c.watch.ensures.mismatched (search rules) in
+    let f = c.in-Some-watch.ensures.aside.mismatched in
     let b = c.watch.new.seat.book in
     let words = c.args.here.words.now in
     let t = c.args.here.taken in
@@ -25,7 +25,7 @@ returns g c =
     let v = c.args.seat.now.view in
     let w = c.watch.new.seat.view in
     let s = c.watch.ensures.told in
-    let f = c.watch.ensures.mismatched (search rules) in
+    let f = c.in-Some-watch.ensures.aside.mismatched in
     let b = c.watch.new.seat.book in
     let words = c.args.here.words.now in
     let t = c.args.here.taken in
