@@ -1,5 +1,5 @@
 -- A node and the one above it stay held while a third one is locked.
-use Rattle.std.proofs.Common.{◌≡◌, ◌≢◌, ℕ, ◌≤◌, List, refl, ap, ◌∙◌, subst, sym, arith}
+use Rattle.std.proofs.Common.{◌≡◌, ◌≢◌, ℕ, ◌≤◌, List, [], ◌∷◌, refl, ap, ◌∙◌, subst, sym, arith}
 use Rattle.node_base.specs.Form.{limit, smaller_form, few_in}
 use Rattle.node_base.specs.declared.base_node.NodeType.{NodeType}
 use Rattle.node_base.specs.declared.base_node.NodeType.TheVariants.{N4, N16, N48, N256}
@@ -8,12 +8,14 @@ use Rattle.live_nodes.specs.Nodes.{Content}
 use Rattle.live_nodes.specs.Seats.{Place, SeatView, IsIn}
 use Rattle.live_layout.specs.Encodes.{counted, most}
 use Rattle.live_law.specs.Levels.{Spot}
-use Rattle.live_law.specs.Views.{View}
+use Rattle.live_law.specs.Views.{View, Own, locked, detached}
 use Rattle.live_growth.specs.Holds.{Alike, HasRest}
 use Rattle.live_growth.specs.Rooms.{HasGrown}
 use Rattle.live_reads.specs.declared.descend.Position.{Position}
+use Rattle.live_growth.proofs.Triples.{Triple, triple_reclaimed}
 use Rattle.live_detach.specs.Two.{HoldsTwo, LeadsTwo}
-use Rattle.live_detach.proofs.Twos.{held_on}
+use Rattle.live_detach.specs.Three.{HasThree}
+use Rattle.live_detach.proofs.Twos.{as_pair, held_on}
 
 abbrev Seen : Type 0
 Seen = SeatView View
@@ -43,6 +45,16 @@ module _ (v w : Seen) (b b' : Book) (words words_above : List Name) (free free_a
     covers_above = l.covers_above;
     leads = l.leads;
   }
+
+-- what the seat has to itself, and holds
+module _ {v : Seen} {b : Book} {words words_above others : List Name} {free free_above back spare : ℕ} {s : Position} {key : ℕ} (h : HasThree v b words words_above others free free_above back spare s key) where
+  pub three_own : v.client.own ≡ detached h.reclaimed.spot ∷ locked h.lead.two.below h.lead.two.content ∷ locked h.lead.two.above h.lead.two.content_above ∷ []
+  three_own = h.reclaimed.own ∙ ap (λ (os : List Own). detached h.reclaimed.spot ∷ os) h.lead.two.own
+
+  pub as_triple : Triple v b others words words_above back free free_above h.reclaimed.spot h.lead.two.below h.lead.two.above h.reclaimed.content h.lead.two.content h.lead.two.content_above
+  as_triple =
+      let two = h.lead.two in
+      triple_reclaimed h.before v b b others words words_above back free free_above spare h.reclaimed two.below two.above two.content two.content_above two.content two.content_above refl (as_pair h.before b words words_above free free_above two) two.own h.are
 
 -- few children have room in the next smaller form
 pub few_fit : (f : NodeType) (c : Content) → f ≢ N4 → counted (limit f) c ≤ few_in f → counted (limit f) c ≤ most (limit (smaller_form f))
