@@ -54,7 +54,7 @@ module _ {v : Seen} {b : Book} {words words_above others : List Name} {free free
   pub as_triple : Triple v b others words words_above back free free_above h.reclaimed.spot h.lead.two.below h.lead.two.above h.reclaimed.content h.lead.two.content h.lead.two.content_above
   as_triple =
       let two = h.lead.two in
-      triple_reclaimed h.before v b b others words words_above back free free_above spare h.reclaimed two.below two.above two.content two.content_above two.content two.content_above refl (as_pair h.before b words words_above free free_above two) two.own h.are
+      triple_reclaimed h.before v b b others words words_above back free free_above spare h.reclaimed two.below two.above two.content two.content_above two.content two.content_above refl (as_pair two) two.own h.are
 
 -- few children have room in the next smaller form
 pub few_fit : (f : NodeType) (c : Content) → f ≢ N4 → counted (limit f) c ≤ few_in f → counted (limit f) c ≤ most (limit (smaller_form f))

@@ -7,20 +7,20 @@ use Rattle.live_nodes.specs.Acts as acts
 use Rattle.live_nodes.specs.Plays as plays
 use Rattle.live_nodes.specs.Plays.{hold_of}
 use Rattle.live_nodes.specs.Calls.{MayFree}
-use Rattle.live_nodes.specs.Rows.{AreOf}
+use Rattle.live_nodes.specs.Rows.{AreOf, nth, draft_of, MayHold, without_draft}
 use Rattle.node_base.specs.Form.{limit}
 use Rattle.node_base.specs.declared.base_node.NodeType.{NodeType}
 use Rattle.spec_node.specs.TableNode.{TableNode, Child}
 use Rattle.spec_map.specs.Map.{lookup}
-use Rattle.live_layout.specs.Encodes.{Encodes, IsBelow, counted, with_child}
+use Rattle.live_layout.specs.Encodes.{words_of, Encodes, IsBelow, counted, with_child}
 use Rattle.live_layout.proofs.StandLaws.{encodes-counted}
 use Rattle.live_law.specs.Levels.{digit, Spot, place_at}
 use Rattle.live_law.specs.Views.{View}
 use Rattle.live_law.specs.Tree.{IsMap}
 use Rattle.live_reads.specs.Paths.{AreNamed, Keeps}
-use Rattle.live_growth.specs.Holds.{HasLocked, HasRest}
+use Rattle.live_growth.specs.Holds.{Alike, HasLocked, HasRest}
 use Rattle.live_growth.proofs.Locks.{hold_head}
-use Rattle.live_growth.proofs.Pairs.{Pair, change_done, at_result}
+use Rattle.live_growth.proofs.Pairs.{Pair, pair_first, pair_second, first_draft, second_draft, change_done, at_result}
 use Rattle.live_detach.specs.Two.{IsHeld, HoldsTwo}
 use Rattle.live_detach.proofs.Unlinks.{Loses}
 
@@ -36,7 +36,7 @@ pub none_counted : (form its : NodeType) (a c : Content) → a ≡ c → form �
 none_counted form its a c same formed none n encodes is =
     none_long n.children (encodes-counted c n encodes ∙ (ap (λ k. counted (limit k) c) (is ∙ sym formed) ∙ (ap (λ z. counted (limit form) z) (sym same) ∙ none)))
 
-module _ (v : Seen) (b : Book) (words words_above : List Name) (free free_above : ℕ) (h : HoldsTwo v b words words_above free free_above) where
+module _ {v : Seen} {b : Book} {words words_above : List Name} {free free_above : ℕ} (h : HoldsTwo v b words words_above free free_above) where
   pub as_pair : Pair v b words words_above free free_above h.below (place_at h.above) h.content h.content_above
   as_pair = record {
     holds = h.holds;
@@ -46,6 +46,25 @@ module _ (v : Seen) (b : Book) (words words_above : List Name) (free free_above 
     are_x = h.held.are;
     are_p = h.held_above.are;
   }
+
+  -- each may be read and written
+  pub lower_may : MayHold 0 words b v
+  lower_may = pair_first v b words words_above free free_above h.below (place_at h.above) h.content h.content_above as_pair h.held.long
+
+  pub lower_draft : draft_of (nth 0 v.holds) ≡ h.content
+  lower_draft = first_draft v b words words_above free free_above h.below (place_at h.above) h.content h.content_above as_pair
+
+  pub lower_long : (form : NodeType) → form ≡ h.below.shape.form → length (draft_of (nth 0 v.holds)) ≡ words_of form
+  lower_long form is = ap (λ (z : Content). length z) lower_draft ∙ (h.held.long ∙ ap words_of (sym is))
+
+  pub upper_may : MayHold 1 words_above b v
+  upper_may = pair_second v b words words_above free free_above h.below (place_at h.above) h.content h.content_above as_pair h.held_above.long
+
+  pub upper_draft : draft_of (nth 1 v.holds) ≡ h.content_above
+  upper_draft = second_draft v b words words_above free free_above h.below (place_at h.above) h.content h.content_above as_pair
+
+  pub upper_long : (form : NodeType) → form ≡ h.above.shape.form → length (draft_of (nth 1 v.holds)) ≡ words_of form
+  upper_long form is = ap (λ (z : Content). length z) upper_draft ∙ (h.held_above.long ∙ ap words_of (sym is))
 
   hold_first : hold_of h.below.number v.holds ≡ Some (hold h.below.number (free + 2) h.content)
   hold_first = ap (hold_of h.below.number) h.holds ∙ hold_head h.below.number (free + 2) h.content (hold h.above.number (free_above + 2) h.content_above ∷ [])
@@ -87,6 +106,16 @@ held_on v w b b' words free a c places same h = record {
   even = h.even;
   small = h.small;
 }
+
+-- THE SEAT KNOWS THE SAME where nothing happened, something was written, or a node was unlocked.
+pub alike_same : (v w : Seen) → w ≡ v → Alike v w
+alike_same v w e = record { places = ap (λ (z : Seen). z.places) e; met = ap (λ (z : Seen). z.client.met) e; room = ap (λ (z : Seen). z.room) e }
+
+pub alike_wrote : (n : ℕ) (v w : Seen) → without_draft n w ≡ without_draft n v → Alike v w
+alike_wrote n v w e = record { places = ap (λ (z : Seen). z.places) e; met = ap (λ (z : Seen). z.client.met) e; room = ap (λ (z : Seen). z.room) e }
+
+pub alike_freed : (v w : Seen) (e : View) (hs : List Hold) → w ≡ seat_view e v.places v.reads hs v.room → e.met ≡ v.client.met → Alike v w
+alike_freed v w e hs is met = record { places = ap (λ (z : Seen). z.places) is; met = ap (λ (z : Seen). z.client.met) is ∙ met; room = ap (λ (z : Seen). z.room) is }
 
 -- A seat that has nothing to itself, before and after, keeps what it knows.
 pub rest_keeps : (v w : Seen) → v.client.own ≡ [] → v.holds ≡ [] → HasRest v w → Keeps v w

@@ -1,60 +1,27 @@
-use Rattle.std.proofs.Common.{rules, sym, ap, subst, length, ℕ, List, ◌≡◌, ◌∙◌}
-use Rattle.live_law.specs.Levels.{place_at}
-use Rattle.live_layout.specs.Encodes.{words_of}
+use Rattle.std.proofs.Common.{rules, sym, ap, subst, ◌≡◌, ◌∙◌}
 use Rattle.live_growth.specs.Holds.{HasRest}
-use Rattle.live_growth.proofs.Pairs.{pair_first, first_draft}
+use Rattle.live_growth.proofs.Locks.{alike_then}
 use Rattle.live_detach.specs.Two.{PartsTwo}
 use Rattle.live_detach.specs.declared.shrink_node.Fill.TheVariants.{Empty}
-use Rattle.live_detach.proofs.Twos.{as_pair, none_counted, rest_keeps}
+use Rattle.live_detach.proofs.Twos.{lower_may, lower_draft, lower_long, none_counted, alike_same, rest_keeps}
 use Rattle.live_detach.proofs.detach.detach.Goals as goal
 
 pub fill_of-requires-clause-may : goal.fill_of-requires-clause-may
-fill_of-requires-clause-may c =
-    let v = c.args.seat.now.view in
-    let words = c.in-Some-words_at.words.now in
-    let words_p = c.in-Some.words_above.now in
-    let two = c.in-Some-lock_two.two in
-    let w = c.lock_two.new.seat.view in
-    let b = c.lock_two.new.seat.book in
-    let l = c.in-Some-lock_two.ensures.told.3.1 in
-    let h = l.two in
-    let pair = as_pair w b words words_p two.free two.free_above h in
-    let form = c.form_below.ensures h.below.shape.key h.below.shape.form l.named in
-    let was = first_draft w b words words_p two.free two.free_above h.below (place_at h.above) h.content h.content_above pair in
-    pair_first w b words words_p two.free two.free_above h.below (place_at h.above) h.content h.content_above pair h.held.long
+fill_of-requires-clause-may c = lower_may c.in-Some-lock_two.ensures.told.3.1.two
 
 pub fill_of-requires-clause-long : goal.fill_of-requires-clause-long
 fill_of-requires-clause-long c =
-    let v = c.args.seat.now.view in
-    let words = c.in-Some-words_at.words.now in
-    let words_p = c.in-Some.words_above.now in
-    let two = c.in-Some-lock_two.two in
-    let w = c.lock_two.new.seat.view in
-    let b = c.lock_two.new.seat.book in
     let l = c.in-Some-lock_two.ensures.told.3.1 in
-    let h = l.two in
-    let pair = as_pair w b words words_p two.free two.free_above h in
-    let form = c.form_below.ensures h.below.shape.key h.below.shape.form l.named in
-    let was = first_draft w b words words_p two.free two.free_above h.below (place_at h.above) h.content h.content_above pair in
-    ap (λ (t : List ℕ). length t) was ∙ (h.held.long ∙ ap words_of (sym form))
+    lower_long l.two c.form_below.result (c.form_below.ensures l.two.below.shape.key l.two.below.shape.form l.named)
 
 pub part-left-requires-clause-parts : goal.part-left-requires-clause-parts
 part-left-requires-clause-parts c =
-    let v = c.args.seat.now.view in
-    let words = c.in-Some-words_at.words.now in
-    let words_p = c.in-Some.words_above.now in
-    let two = c.in-Some-lock_two.two in
-    let w = c.lock_two.new.seat.view in
-    let b = c.lock_two.new.seat.book in
     let l = c.in-Some-lock_two.ensures.told.3.1 in
     let h = l.two in
-    let pair = as_pair w b words words_p two.free two.free_above h in
     let form = c.form_below.ensures h.below.shape.key h.below.shape.form l.named in
-    let was = first_draft w b words words_p two.free two.free_above h.below (place_at h.above) h.content h.content_above pair in
     let empty : c.fill_of.result ≡ Empty = search rules in
-    let none = none_counted c.form_below.result h.below.shape.form _ h.content was form (c.fill_of.ensures.empty.0 empty) in
-    let parts : PartsTwo w b words words_p two.free two.free_above c.args.position c.args.key = record { lead = l; none = none } in
-    subst (λ s. PartsTwo s.view s.book words words_p two.free two.free_above c.args.position c.args.key) (sym c.fill_of.ensures.seat.same) parts
+    let none = none_counted c.form_below.result h.below.shape.form _ h.content (lower_draft h) form (c.fill_of.ensures.empty.0 empty) in
+    subst (λ s. PartsTwo s.view s.book c.in-Some-words_at.words.now c.in-Some.words_above.now c.in-Some-lock_two.two.free c.in-Some-lock_two.two.free_above c.args.position c.args.key) (sym c.fill_of.ensures.seat.same) record { lead = l; none = none }
 
 pub returns-in_default-fill_of : goal.returns-in_default-fill_of
 returns-in_default-fill_of c =
@@ -66,11 +33,7 @@ returns-in_default-fill_of c =
     let rest : HasRest v c.unlock_two.new.seat.view = record {
       own = u.2.own;
       holds = u.2.holds;
-      alike = record {
-        places = u.2.alike.places ∙ (ap (λ s. s.view.places) same ∙ alike.places);
-        met = u.2.alike.met ∙ (ap (λ s. s.view.client.met) same ∙ alike.met);
-        room = u.2.alike.room ∙ (ap (λ s. s.view.room) same ∙ alike.room);
-      };
+      alike = alike_then v c.lock_two.new.seat.view c.unlock_two.new.seat.view alike (alike_then c.lock_two.new.seat.view c.fill_of.new.seat.view c.unlock_two.new.seat.view (alike_same c.lock_two.new.seat.view c.fill_of.new.seat.view (ap (λ s. s.view) same)) u.2.alike);
     } in
     record {
       told = (
