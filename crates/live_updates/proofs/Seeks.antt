@@ -1,5 +1,7 @@
 -- What a seat knows after a node was read in a look-up.
-use Rattle.std.proofs.Common.{◌≡◌, ◌≢◌, ℕ, ◌*◌, ◌≤◌, zero, suc, Bool, true, false, IsTrue, List, ◌∷◌, ◌++◌, Option, Some, None, refl, sym, ap, ◌∙◌, subst, arith}
+use Rattle.std.proofs.Common.{◌≡◌, ◌≢◌, ◌↔◌, ℕ, ◌*◌, ◌≤◌, zero, suc, Bool, true, false, IsTrue, List, ◌∷◌, ◌++◌, Option, Some, None, refl, sym, ap, ◌∙◌, subst, arith}
+use mathlib.Core.Logic.{dite}
+use native.Mathlib.Decide.{ℕ_discrete}
 use Rattle.spec_node.specs.TableNode.{TableNode, Child}
 use Rattle.spec_node.specs.declared.child.Child.TheVariants.{Payload, Node as Below}
 use Rattle.spec_map.specs.Map.{lookup}
@@ -46,9 +48,16 @@ lacks_later q false u v w e l = l ∙ e
 off_on : false ≡ true → ⊥
 off_on e = cc
 
-pub lacks_by : (q : Lookup) (b : Bool) (v w : Seen) → (IsTrue b → EndsBy q.caller (q.entry None) v w) → ((IsTrue b → ⊥) → w.client.seen ≡ v.client.seen) → Lacks q b v w
+lacks_by : (q : Lookup) (b : Bool) (v w : Seen) → (IsTrue b → EndsBy q.caller (q.entry None) v w) → ((IsTrue b → ⊥) → w.client.seen ≡ v.client.seen) → Lacks q b v w
 lacks_by q true v w ends same = ends refl
 lacks_by q false v w ends same = same off_on
+
+-- A check hit, and the call ended, or it missed.
+pub lacks_checked : (q : Lookup) (b : Bool) (v w : Seen) (m t : ℕ) → (IsTrue b ↔ (m ≡ t)) → (m ≡ t → Keeps v w × EndsBy q.caller (q.entry None) v w) → (m ≢ t → Keeps v w × (w.client.seen ≡ v.client.seen)) → Keeps v w × Lacks q b v w
+lacks_checked q b v w m t hits ends missed = (
+  dite (ℕ_discrete m t) (λ hit. (ends hit).0) (λ ne. (missed ne).0),
+  lacks_by q b v w (λ yes. (ends (hits.0 yes)).1) (λ no. (missed (λ hit. no (hits.1 hit))).1),
+)
 
 pub lacks_so : (q : Lookup) (b : Bool) (v w : Seen) → b ≡ true → Lacks q b v w → EndsBy q.caller (q.entry None) v w
 lacks_so q b v w e l = subst (λ (z : Bool). Lacks q z v w) e l
@@ -92,29 +101,35 @@ module _ (q : Lookup) (v w : Seen) (ps : List Place) (rs : List Read) (c : View)
   at_end word height a (Some (Payload z)) (Some y) end kind below then = subst (λ (t : ℕ). Keeps v w × EndsBy q.caller (q.entry (Some t)) v w) (sym below) (ended (Some z) then)
   at_end word height a (Some (Below s)) (Some y) end kind below then = absurd (subst (λ (h : ℕ). IsOfKind h (Some (Below s))) end kind)
 
--- AN OPEN NODE was read.
-module _ (v : Seen) (b : Book) (words : List Name) (t name key height : ℕ) (o : IsOpen v b words t name key height) (v₂ : Seen) (rest : without_reads v₂ ≡ without_reads v) (k : ℕ) (at_k : (place_at o.names.spot).key ≡ k) (q : Lookup) (asked : q.key ≡ key) where
+-- AN OPEN NODE was read in a look-up of a key. Its version word is the one that is checked.
+pub record HasRead (v v₂ : Seen) (b : Book) (words : List Name) (t name key height k : ℕ) (q : Lookup) : Type 0 where
+  pub node : IsOpen v b words t name key height
+  pub rest : without_reads v₂ ≡ without_reads v
+  pub at_k : (place_at node.names.spot).key ≡ k
+  pub asked : q.key ≡ key
+
+module _ {v v₂ : Seen} {b : Book} {words : List Name} {t name key height k : ℕ} {q : Lookup} (r : HasRead v v₂ b words t name key height k q) where
   abbrev its : Spot
-  its = o.names.spot
+  its = r.node.names.spot
 
   abbrev saw_it : List (ℕ × ℕ)
   saw_it = last_saw v₂.reads
 
   pub may_seek : (law : IsLookup q) (id m : ℕ) → q.caller ≡ id → t ≡ 4 * m → MayCheck v₂ k IsMap id (LearnsSeek q) t
-  may_seek law id m by even = may_check_open v b words t its o.names.placed o.opened v₂ rest k at_k (LearnsSeek q) id (node_seeks q law id by v.client its o.names.met t saw_it m even (read its.number t saw_it ∷ o.opened.before))
+  may_seek law id m by even = may_check_open v b words t its r.node.names.placed r.node.opened v₂ r.rest k r.at_k (LearnsSeek q) id (node_seeks q law id by v.client its r.node.names.met t saw_it m even (read its.number t saw_it ∷ r.node.opened.before))
 
   module _ (w : Seen) (m : ℕ) (told : Checks (LearnsSeek q) (reads k) v₂ m none_joined w) where
-    pub seek_missed : m ≢ t → Keeps v w × (w.client ≡ v.client)
-    seek_missed ne = open_missed v b words t its o.names.placed o.opened v₂ rest k at_k (LearnsSeek q) w m told ne
+    pub seek_missed : m ≢ t → Keeps v w × (w.client.seen ≡ v.client.seen)
+    seek_missed ne = let missed = open_missed v b words t its r.node.names.placed r.node.opened v₂ r.rest k r.at_k (LearnsSeek q) w m told ne in (missed.0, ap (λ (z : View). z.seen) missed.1)
 
     -- what was read before is so still
-    pub seek_ends : m ≡ t → ((c : Content) → Agree c saw_it → Agree c o.opened.saw) → (found : Option ℕ) → IsEnd height found
+    pub seek_ends : m ≡ t → ((c : Content) → Agree c saw_it → Agree c r.node.opened.saw) → (found : Option ℕ) → IsEnd height found
         → ((c : Content) (n : TableNode ℕ) → Agree c saw_it → Encodes c n → n.form ≡ its.shape.form → IsBelow (lookup n.children (digit height key)) found)
         → Keeps v w × EndsBy q.caller (q.entry found) v w
     seek_ends hit kept found end finds =
-        let h = (open_checked v b words t its o.names.placed o.opened v₂ rest k at_k (LearnsSeek q) w m told).hit hit in
-        let x = h.3 its o.names.met refl in
-        let shape_is : x.shape ≡ its.shape = o.sure x.shape record {
+        let h = (open_checked v b words t its r.node.names.placed r.node.opened v₂ r.rest k r.at_k (LearnsSeek q) w m told).hit hit in
+        let x = h.3 its r.node.names.met refl in
+        let shape_is : x.shape ≡ its.shape = r.node.sure x.shape record {
           now = x.is.now;
           content = x.is.content;
           its = x.is.its;
@@ -125,23 +140,32 @@ module _ (v : Seen) (b : Book) (words : List Name) (t name key height : ℕ) (o 
           prefixed = x.is.prefixed;
         } in
         let under : Option (Child ℕ) = lookup x.is.its.children (digit its.shape.height q.key) in
-        let covers : Covers its.shape q.key = ap (up its.shape.height) asked ∙ o.names.covers in
-        let below : IsBelow under found = subst (λ (z : ℕ × ℕ). IsBelow (lookup x.is.its.children (digit z.0 z.1)) found) (λ i. (sym o.names.high i, sym asked i)) (finds x.is.content x.is.its x.is.agrees x.is.encodes x.is.in_form) in
+        let covers : Covers its.shape q.key = ap (up its.shape.height) r.asked ∙ r.node.names.covers in
+        let below : IsBelow under found = subst (λ (z : ℕ × ℕ). IsBelow (lookup x.is.its.children (digit z.0 z.1)) found) (λ i. (sym r.node.names.high i, sym r.asked i)) (finds x.is.content x.is.its x.is.agrees x.is.encodes x.is.in_form) in
         let kind : IsOfKind its.shape.height under = subst (λ (z : Shape). IsOfKind z.height (lookup x.is.its.children (digit z.height q.key))) shape_is x.of_kind in
         let then : Seeks q t (asked_by q) v.client its under h.0 h.1 = subst (λ (z : Shape). Covers z q.key → Seeks q t (asked_by q) v.client (spot its.number z) (lookup x.is.its.children (digit z.height q.key)) h.0 h.1) shape_is x.on_path covers in
-        at_end q v w h.0 (read its.number t saw_it ∷ o.opened.before) h.1 h.2 t height its under found end (subst (λ (z : ℕ). IsOfKind z under) o.names.high kind) below then
+        at_end q v w h.0 (read its.number t saw_it ∷ r.node.opened.before) h.1 h.2 t height its under found end (subst (λ (z : ℕ). IsOfKind z under) r.node.names.high kind) below then
 
 -- AN OPEN NODE was read that leads on to one whose path the key leaves.
-module _ (v : Seen) (b : Book) (words : List Name) (t name key height : ℕ) (f : IsMismatched v b words t name key height) (high : 2 ≤ height) (k : ℕ) (at_k : (place_at f.names.spot).key ≡ k) (q : Lookup) (asked : q.key ≡ key) where
+pub record LeadsAside (v : Seen) (b : Book) (words : List Name) (t name key height k : ℕ) (q : Lookup) : Type 0 where
+  pub node : IsMismatched v b words t name key height
+  pub high : 2 ≤ height
+  pub at_k : (place_at node.names.spot).key ≡ k
+  pub asked : q.key ≡ key
+
+module _ {v : Seen} {b : Book} {words : List Name} {t name key height k : ℕ} {q : Lookup} (r : LeadsAside v b words t name key height k q) where
+  abbrev f : IsMismatched v b words t name key height
+  f = r.node
+
   abbrev x : Spot
   x = f.names.spot
 
   pub may_part : (law : IsLookup q) (id m : ℕ) → q.caller ≡ id → t ≡ 4 * m → MayCheck v k IsMap id (LearnsSeek q) t
-  may_part law id m by even = (place_at x, read x.number t f.saw, (f.names.placed, at_k), f.reads, refl, node_seeks q law id by v.client x f.names.met t f.saw m even v.reads)
+  may_part law id m by even = (place_at x, read x.number t f.saw, (f.names.placed, r.at_k), f.reads, refl, node_seeks q law id by v.client x f.names.met t f.saw m even v.reads)
 
   module _ (w : Seen) (m : ℕ) (told : Checks (LearnsSeek q) (reads k) v m none_joined w) where
     part_checked : Plays.Checked (LearnsSeek q v.client x.number t f.saw) t v m w
-    part_checked = told (place_at x) (read x.number t f.saw) f.names.placed at_k f.reads
+    part_checked = told (place_at x) (read x.number t f.saw) f.names.placed r.at_k f.reads
 
     pub part_lost : m ≢ t → Keeps v w × (w.client.seen ≡ v.client.seen)
     part_lost ne = subst (λ (z : Seen). Keeps v z × (z.client.seen ≡ v.client.seen)) (sym (part_checked.miss ne))
@@ -157,7 +181,7 @@ module _ (v : Seen) (b : Book) (words : List Name) (t name key height : ℕ) (f 
       above = f.above;
       free_by = f.free_by;
       named = f.spells s below;
-      leaves = λ covers. f.leaves (ap (up f.watch.spot.shape.height) (sym asked) ∙ covers);
+      leaves = λ covers. f.leaves (ap (up f.watch.spot.shape.height) (sym r.asked) ∙ covers);
     }
 
     pub part_ends : m ≡ t → Keeps v w × EndsBy q.caller (q.entry None) v w
@@ -166,8 +190,8 @@ module _ (v : Seen) (b : Book) (words : List Name) (t name key height : ℕ) (f 
         let y = h.3 x f.names.met refl in
         let shape_is : y.shape ≡ x.shape = f.sure y.shape y.is in
         let under : Option (Child ℕ) = lookup y.is.its.children (digit x.shape.height q.key) in
-        let covers : Covers x.shape q.key = ap (up x.shape.height) asked ∙ f.names.covers in
+        let covers : Covers x.shape q.key = ap (up x.shape.height) r.asked ∙ f.names.covers in
         let kind : IsOfKind x.shape.height under = subst (λ (z : Shape). IsOfKind z.height (lookup y.is.its.children (digit z.height q.key))) shape_is y.of_kind in
         let then : Seeks q t (asked_by q) v.client x under h.0 h.1 = subst (λ (z : Shape). Covers z q.key → Seeks q t (asked_by q) v.client (spot x.number z) (lookup y.is.its.children (digit z.height q.key)) h.0 h.1) shape_is y.on_path covers in
-        let below : IsBelow under (Some f.word) = subst (λ (z : ℕ × ℕ). IsBelow (lookup y.is.its.children (digit z.0 z.1)) (Some f.word)) (λ i. (sym f.names.high i, sym asked i)) (f.finds y.is.content y.is.its y.is.agrees y.is.encodes y.is.in_form) in
-        ended q v w h.0 v.reads h.1 h.2 None (aside x.shape.height under h.0 h.1 (subst (λ (z : ℕ). 2 ≤ z) (sym f.names.high) high) kind below then)
+        let below : IsBelow under (Some f.word) = subst (λ (z : ℕ × ℕ). IsBelow (lookup y.is.its.children (digit z.0 z.1)) (Some f.word)) (λ i. (sym f.names.high i, sym r.asked i)) (f.finds y.is.content y.is.its y.is.agrees y.is.encodes y.is.in_form) in
+        ended q v w h.0 v.reads h.1 h.2 None (aside x.shape.height under h.0 h.1 (subst (λ (z : ℕ). 2 ≤ z) (sym f.names.high) r.high) kind below then)

@@ -1,250 +1,171 @@
 use Rattle.std.proofs.Common.{rules, arith, sym, ap, subst, length, ℕ, Some, None, List, ◌≡◌, ◌+◌, ◌/◌, ◌∙◌}
 use Rattle.live_nodes.specs.Acts as acts
+use Rattle.live_nodes.specs.Nodes.{Content}
 use Rattle.live_nodes.specs.Seats.{SeatView}
 use Rattle.live_nodes.specs.Rows.{draft_of, nth}
 use Rattle.live_layout.specs.Encodes.{words_of, IsCounted}
-use Rattle.live_law.specs.Levels.{up, digit, place_at}
+use Rattle.live_law.specs.Levels.{up, digit, Spot, place_at}
 use Rattle.live_law.specs.Views.{View}
 use Rattle.live_law.specs.Tree.{IsMap, Answers}
 use Rattle.live_reads.specs.Paths.{AreNamed}
-use Rattle.live_growth.specs.Holds.{HasLocked, HoldsOne}
+use Rattle.live_growth.specs.Holds.{Alike, HasLocked, HoldsOne}
 use Rattle.live_reads.proofs.Views.{first_word}
 use Rattle.share_rule.specs.History.{Entry}
 use Rattle.live_updates.specs.inner.Updates.{Writes}
 use Rattle.live_updates.proofs.Leaves.{leaf_updates}
 use Rattle.live_updates.proofs.Written.{set_leaf, kept_leaf, encodes_few}
 use Rattle.live_growth.proofs.Locks.{taken_by, holds_one, may_hold, draft_is, wrote_one, may_free, is_freed, alike_then}
+use Rattle.live_updates.proofs.leaf.update_leaf.Given.{Over}
 use Rattle.live_updates.proofs.leaf.update_leaf.Goals as goal
+use Rattle.live_updates.proofs.leaf.update_leaf.Goals.{In-Some-lock_node, After-set, After-index-words-0}
+
+abbrev Seen : Type 0
+Seen = SeatView View
+
+-- THE LEAF is locked
+module _ (g : Over) (c : In-Some-lock_node g) where
+  leaf : HasLocked c.args.seat.now.view c.lock_node.new.seat.view c.args.name c.args.key 1 c.in-Some-lock_node.free
+  leaf =
+      let locked : c.lock_node.result ≡ Some c.in-Some-lock_node.free = search rules in
+      taken_by c.lock_node.result c.in-Some-lock_node.free locked (HasLocked c.args.seat.now.view c.lock_node.new.seat.view c.args.name c.args.key 1) c.lock_node.ensures.told.2
+
+  abbrev a : Spot
+  a = leaf.names.spot
+
+  form : c.form_below-form.result ≡ a.shape.form
+  form = c.form_below-form.ensures a.shape.key a.shape.form leaf.names.named
+
+  one : HoldsOne c.lock_node.new.seat.view c.lock_node.new.seat.book c.in-Some.words.now c.in-Some-lock_node.free a leaf.content leaf.content
+  one =
+      let are = subst (λ z. AreNamed z c.args.name c.in-Some.words.now) (sym (c.lock_node.ensures.told.0 ∙ c.requires.book)) c.in-Some.ensures in
+      holds_one c.args.seat.now.view c.lock_node.new.seat.view c.args.name c.args.key 1 c.in-Some-lock_node.free leaf c.lock_node.new.seat.book c.in-Some.words.now are c.requires.rests.0 c.requires.rests.1
+
+  drafted : draft_of (nth 0 c.lock_node.new.seat.view.holds) ≡ leaf.content
+  drafted = draft_is c.lock_node.new.seat.view c.lock_node.new.seat.book c.in-Some.words.now c.in-Some-lock_node.free a leaf.content leaf.content one
+
+-- It may be written.
+module _ (g : Over) (c : After-set g) where
+  abbrev first : In-Some-lock_node g
+  first = (goal.at.After-set g c).In-Some-lock_node
+
+  abbrev d : Content
+  d = draft_of (nth 0 c.set.new.seat.view.holds)
+
+  digit_is : c.byte_at-byte.result ≡ digit 1 g.U.Updates.update.key
+  digit_is = c.byte_at-byte.ensures ∙ ap (digit 1) (sym c.requires.asks.0)
+
+  wrote : HoldsOne c.set.new.seat.view c.lock_node.new.seat.book c.in-Some.words.now c.in-Some-lock_node.free (a g first) (leaf g first).content d × Alike c.lock_node.new.seat.view c.set.new.seat.view × (c.set.new.seat.view.client ≡ c.lock_node.new.seat.view.client)
+  wrote = wrote_one c.lock_node.new.seat.view c.set.new.seat.view c.lock_node.new.seat.book c.in-Some.words.now c.in-Some-lock_node.free (a g first) (leaf g first).content (leaf g first).content (one g first) (ap (λ s. s.view) c.set.ensures.seat.others)
+
+  on : HoldsOne c.set.new.seat.view c.set.new.seat.book c.in-Some.words.now c.in-Some-lock_node.free (a g first) (leaf g first).content d
+  on = subst (λ z. HoldsOne c.set.new.seat.view z c.in-Some.words.now c.in-Some-lock_node.free (a g first) (leaf g first).content d) (sym (ap (λ s. s.book) c.set.ensures.seat.others)) wrote.0
+
+  alike : Alike c.args.seat.now.view c.set.new.seat.view
+  alike = alike_then c.args.seat.now.view c.lock_node.new.seat.view c.set.new.seat.view (leaf g first).alike wrote.1
+
+  book : c.set.new.seat.book ≡ c.args.seat.now.book
+  book = ap (λ s. s.book) c.set.ensures.seat.others ∙ c.lock_node.ensures.told.0
+
+  id : c.set.new.seat.id ≡ c.args.seat.now.id
+  id = ap (λ s. s.id) c.set.ensures.seat.others ∙ c.lock_node.ensures.told.1
+
+-- It is written, and its keys may be counted.
+module _ (g : Over) (c : After-index-words-0 g) where
+  abbrev written : After-set g
+  written = (goal.at.After-index-words-0 g c).After-set
+
+  abbrev locked_of : In-Some-lock_node g
+  locked_of = first g written
+
+  counted : HoldsOne c.left_in-left.new.seat.view c.left_in-left.new.seat.book c.in-Some.words.now c.in-Some-lock_node.free (a g locked_of) (leaf g locked_of).content (d g written)
+  counted = subst (λ s. HoldsOne s.view s.book c.in-Some.words.now c.in-Some-lock_node.free (a g locked_of) (leaf g locked_of).content (d g written)) (sym c.left_in-left.ensures.seat.same) (on g written)
+
+  client : c.left_in-left.new.seat.view.client ≡ c.lock_node.new.seat.view.client
+  client = ap (λ s. s.view.client) c.left_in-left.ensures.seat.same ∙ (wrote g written).2
+
+  at_k : (a g locked_of).shape.key ≡ c.index-words-0.result.key
+  at_k = (first_word (place_at (a g locked_of)) c.left_in-left.new.seat.book c.in-Some.words.now counted.are c.index-words-0.result c.index-words-0.result (sym c.index-words-0.is)).0
 
 pub set-requires-clause-may : goal.set-requires-clause-may
 set-requires-clause-may g c =
-    let v = c.args.seat.now.view in
-    let name = c.args.name in
-    let key = c.args.key in
-    let words = c.in-Some.words.now in
-    let free = c.in-Some-lock_node.free in
-    let w = c.lock_node.new.seat.view in
-    let t = c.lock_node.ensures.told in
-    let locked : c.lock_node.result ≡ Some free = search rules in
-    let h = taken_by c.lock_node.result free locked (HasLocked v w name key 1) t.2 in
-    let book = t.0 ∙ c.requires.book in
-    let b = c.lock_node.new.seat.book in
-    let are = subst (λ z. AreNamed z name words) (sym book) c.in-Some.ensures in
-    let one = holds_one v w name key 1 free h b words are c.requires.rests.0 c.requires.rests.1 in
-    let a = h.names.spot in
-    let form = c.form_below-form.ensures a.shape.key a.shape.form h.names.named in
-    may_hold w b words free a h.content h.content one h.long
+    let k = (goal.at.set-requires-clause-may g c).In-Some-lock_node in
+    may_hold c.lock_node.new.seat.view c.lock_node.new.seat.book c.in-Some.words.now c.in-Some-lock_node.free (a g k) (leaf g k).content (leaf g k).content (one g k) (leaf g k).long
 
 pub set-requires-clause-long : goal.set-requires-clause-long
 set-requires-clause-long g c =
-    let v = c.args.seat.now.view in
-    let name = c.args.name in
-    let key = c.args.key in
-    let words = c.in-Some.words.now in
-    let free = c.in-Some-lock_node.free in
-    let w = c.lock_node.new.seat.view in
-    let t = c.lock_node.ensures.told in
-    let locked : c.lock_node.result ≡ Some free = search rules in
-    let h = taken_by c.lock_node.result free locked (HasLocked v w name key 1) t.2 in
-    let book = t.0 ∙ c.requires.book in
-    let b = c.lock_node.new.seat.book in
-    let are = subst (λ z. AreNamed z name words) (sym book) c.in-Some.ensures in
-    let one = holds_one v w name key 1 free h b words are c.requires.rests.0 c.requires.rests.1 in
-    let a = h.names.spot in
-    let form = c.form_below-form.ensures a.shape.key a.shape.form h.names.named in
-    ap (λ (z : List ℕ). length z) (draft_is w b words free a h.content h.content one) ∙ (h.long ∙ ap words_of (sym form))
+    let k = (goal.at.set-requires-clause-long g c).In-Some-lock_node in
+    ap (λ (z : Content). length z) (drafted g k) ∙ ((leaf g k).long ∙ ap words_of (sym (form g k)))
 
 pub set-requires-clause-few : goal.set-requires-clause-few
 set-requires-clause-few g c =
-    let v = c.args.seat.now.view in
-    let name = c.args.name in
-    let key = c.args.key in
-    let words = c.in-Some.words.now in
-    let free = c.in-Some-lock_node.free in
-    let w = c.lock_node.new.seat.view in
-    let t = c.lock_node.ensures.told in
-    let locked : c.lock_node.result ≡ Some free = search rules in
-    let h = taken_by c.lock_node.result free locked (HasLocked v w name key 1) t.2 in
-    let book = t.0 ∙ c.requires.book in
-    let b = c.lock_node.new.seat.book in
-    let are = subst (λ z. AreNamed z name words) (sym book) c.in-Some.ensures in
-    let one = holds_one v w name key 1 free h b words are c.requires.rests.0 c.requires.rests.1 in
-    let a = h.names.spot in
-    let form = c.form_below-form.ensures a.shape.key a.shape.form h.names.named in
-    subst (λ (z : List ℕ). IsCounted c.form_below-form.result z) (sym (draft_is w b words free a h.content h.content one)) (encodes_few h.content h.its c.form_below-form.result (h.in_form ∙ sym form) h.encodes)
+    let k = (goal.at.set-requires-clause-few g c).In-Some-lock_node in
+    let h = leaf g k in
+    subst (λ (z : Content). IsCounted c.form_below-form.result z) (sym (drafted g k)) (encodes_few h.content h.its c.form_below-form.result (h.in_form ∙ sym (form g k)) h.encodes)
 
 pub unlock_same-requires-clause-holds : goal.unlock_same-requires-clause-holds
 unlock_same-requires-clause-holds g c =
-    let v = c.args.seat.now.view in
-    let name = c.args.name in
-    let key = c.args.key in
-    let words = c.in-Some.words.now in
-    let free = c.in-Some-lock_node.free in
-    let w = c.lock_node.new.seat.view in
-    let t = c.lock_node.ensures.told in
-    let locked : c.lock_node.result ≡ Some free = search rules in
-    let h = taken_by c.lock_node.result free locked (HasLocked v w name key 1) t.2 in
-    let book = t.0 ∙ c.requires.book in
-    let b = c.lock_node.new.seat.book in
-    let are = subst (λ z. AreNamed z name words) (sym book) c.in-Some.ensures in
-    let one = holds_one v w name key 1 free h b words are c.requires.rests.0 c.requires.rests.1 in
-    let a = h.names.spot in
-    let form = c.form_below-form.ensures a.shape.key a.shape.form h.names.named in
-    let u = c.set.new.seat.view in
-    let r = c.set.ensures.seat.others in
-    let d = draft_of (nth 0 u.holds) in
-    let on = wrote_one w u b words free a h.content h.content one (ap (λ s. s.view) r) in
-    let same_book = ap (λ s. s.book) r in
-    let on_book = subst (λ z. HoldsOne u z words free a h.content d) (sym same_book) on.0 in
-    let written = c.set.ensures.is in
-    let was = draft_is w b words free a h.content h.content one in
-    let missed = c.in-Some-set.missed in
-    let kept : c.set.result ≡ Some missed = search rules in
+    let s = (goal.at.unlock_same-requires-clause-holds g c).After-set in
+    let k = first g s in
+    let h = leaf g k in
+    let kept : c.set.result ≡ Some c.in-Some-set.missed = search rules in
     let deep : length h.its.prefix ≡ 7 = (let e = h.deep in omega (arith, e)) in
-    let digit_is = c.byte_at-byte.ensures ∙ ap (digit 1) (sym c.requires.asks.0) in
-    let same = kept_leaf g.U.Updates.update c.byte_at-byte.result c.args.old c.args.new digit_is c.requires.values.0 c.requires.values.1 c.form_below-form.result h.content (draft_of (nth 0 w.holds)) d was c.set.result missed kept written h.its h.encodes (h.in_form ∙ sym form) deep in
-    (a, h.content, subst (λ z. HoldsOne u c.set.new.seat.book words free a h.content z) same on_book)
+    let same = kept_leaf g.U.Updates.update c.byte_at-byte.result c.args.old c.args.new (digit_is g s) c.requires.values.0 c.requires.values.1 c.form_below-form.result h.content (draft_of (nth 0 c.lock_node.new.seat.view.holds)) (d g s) (drafted g k) c.set.result c.in-Some-set.missed kept c.set.ensures.is h.its h.encodes (h.in_form ∙ sym (form g k)) deep in
+    (a g k, h.content, subst (λ z. HoldsOne c.set.new.seat.view c.set.new.seat.book c.in-Some.words.now c.in-Some-lock_node.free (a g k) h.content z) same (on g s))
 
 pub returns-in-Some-set : goal.returns-in-Some-set
 returns-in-Some-set g c =
-    let v = c.args.seat.now.view in
-    let name = c.args.name in
-    let key = c.args.key in
-    let words = c.in-Some.words.now in
-    let free = c.in-Some-lock_node.free in
-    let w = c.lock_node.new.seat.view in
-    let t = c.lock_node.ensures.told in
-    let locked : c.lock_node.result ≡ Some free = search rules in
-    let h = taken_by c.lock_node.result free locked (HasLocked v w name key 1) t.2 in
-    let book = t.0 ∙ c.requires.book in
-    let b = c.lock_node.new.seat.book in
-    let are = subst (λ z. AreNamed z name words) (sym book) c.in-Some.ensures in
-    let one = holds_one v w name key 1 free h b words are c.requires.rests.0 c.requires.rests.1 in
-    let a = h.names.spot in
-    let form = c.form_below-form.ensures a.shape.key a.shape.form h.names.named in
-    let u = c.set.new.seat.view in
-    let r = c.set.ensures.seat.others in
-    let d = draft_of (nth 0 u.holds) in
-    let on = wrote_one w u b words free a h.content h.content one (ap (λ s. s.view) r) in
-    let same_book = ap (λ s. s.book) r in
-    let on_book = subst (λ z. HoldsOne u z words free a h.content d) (sym same_book) on.0 in
-    let written = c.set.ensures.is in
-    let was = draft_is w b words free a h.content h.content one in
+    let s = (goal.at.returns-in-Some-set g c).After-set in
     let e = c.unlock_same.ensures.told in
     record {
       told = (
-        e.0 ∙ (same_book ∙ t.0),
-        e.1 ∙ (ap (λ s. s.id) r ∙ t.1),
-        record { own = e.2.own; holds = e.2.holds; alike = alike_then v u c.unlock_same.new.seat.view (alike_then v w u h.alike on.1) e.2.alike },
-        e.3 ∙ (ap (λ (z : View). z.seen) on.2 ∙ h.seen),
+        e.0 ∙ book g s,
+        e.1 ∙ id g s,
+        record { own = e.2.own; holds = e.2.holds; alike = alike_then c.args.seat.now.view c.set.new.seat.view c.unlock_same.new.seat.view (alike g s) e.2.alike },
+        e.3 ∙ (ap (λ (z : View). z.seen) (wrote g s).2 ∙ (leaf g (first g s)).seen),
       );
     }
 
 pub unlock-requires-clause-frees : goal.unlock-requires-clause-frees
 unlock-requires-clause-frees g c =
-    let v = c.args.seat.now.view in
-    let name = c.args.name in
-    let key = c.args.key in
-    let words = c.in-Some.words.now in
-    let free = c.in-Some-lock_node.free in
-    let w = c.lock_node.new.seat.view in
-    let t = c.lock_node.ensures.told in
-    let locked : c.lock_node.result ≡ Some free = search rules in
-    let h = taken_by c.lock_node.result free locked (HasLocked v w name key 1) t.2 in
-    let book = t.0 ∙ c.requires.book in
-    let b = c.lock_node.new.seat.book in
-    let are = subst (λ z. AreNamed z name words) (sym book) c.in-Some.ensures in
-    let one = holds_one v w name key 1 free h b words are c.requires.rests.0 c.requires.rests.1 in
-    let a = h.names.spot in
-    let form = c.form_below-form.ensures a.shape.key a.shape.form h.names.named in
-    let u = c.set.new.seat.view in
-    let r = c.set.ensures.seat.others in
-    let d = draft_of (nth 0 u.holds) in
-    let on = wrote_one w u b words free a h.content h.content one (ap (λ s. s.view) r) in
-    let same_book = ap (λ s. s.book) r in
-    let on_set = subst (λ z. HoldsOne u z words free a h.content d) (sym same_book) on.0 in
-    let looked = c.left_in-left.ensures.seat.same in
-    let y = c.left_in-left.new.seat.view in
-    let y_book = c.left_in-left.new.seat.book in
-    let y_id = c.left_in-left.new.seat.id in
-    let on_book = subst (λ s. HoldsOne s.view s.book words free a h.content d) (sym looked) on_set in
-    let y_client = ap (λ s. s.view.client) looked ∙ on.2 in
-    let written = c.set.ensures.is in
-    let was = draft_is w b words free a h.content h.content one in
-    let first = c.index-words-0.result in
-    let at_k = (first_word (place_at a) y_book words on_book.are first first (sym c.index-words-0.is)).0 in
+    let t = (goal.at.unlock-requires-clause-frees g c).After-index-words-0 in
+    let s = written g t in
+    let k = locked_of g t in
+    let h = leaf g k in
     let q = g.U.Updates.update in
+    let y_id = c.left_in-left.new.seat.id in
     let done : c.set.result ≡ None = search rules in
-    let by = c.requires.asks.1 ∙ sym (ap (λ s. s.id) looked ∙ (ap (λ s. s.id) r ∙ t.1)) in
-    let digit_is = c.byte_at-byte.ensures ∙ ap (digit 1) (sym c.requires.asks.0) in
-    let covers = ap (up a.shape.height) c.requires.asks.0 ∙ h.names.covers in
-    let long = c.set.ensures.long ∙ ap words_of form in
-    let changes = set_leaf q c.byte_at-byte.result c.args.old c.args.new digit_is c.requires.values.0 c.requires.values.1 c.form_below-form.result h.content (draft_of (nth 0 w.holds)) d was c.set.result done written a.shape.form (sym form) in
-    let frees = subst (λ (z : View). acts.Frees IsMap y_id z a.number (free + 4) d (Writes q z a.number d)) (sym y_client)
-    (leaf_updates q c.requires.legal y_id by w.client a h.content one.own h.names.high covers (free + 4) (free / 4 + 1) (let even = h.even in omega (arith, even)) d long changes) in
-    may_free y y_book words free a h.content d on_book first.key at_k (Writes q) y_id (free + 4) frees
+    let by = c.requires.asks.1 ∙ sym (ap (λ z. z.id) c.left_in-left.ensures.seat.same ∙ id g s) in
+    let covers = ap (up (a g k).shape.height) c.requires.asks.0 ∙ h.names.covers in
+    let changes = set_leaf q c.byte_at-byte.result c.args.old c.args.new (digit_is g s) c.requires.values.0 c.requires.values.1 c.form_below-form.result h.content (draft_of (nth 0 c.lock_node.new.seat.view.holds)) (d g s) (drafted g k) c.set.result done c.set.ensures.is (a g k).shape.form (sym (form g k)) in
+    let even = h.even in
+    let updates = leaf_updates q c.requires.legal y_id by c.lock_node.new.seat.view.client (a g k) h.content (one g k).own h.names.high covers (c.in-Some-lock_node.free + 4) (c.in-Some-lock_node.free / 4 + 1) (omega (arith, even)) (d g s) (c.set.ensures.long ∙ ap words_of (form g k)) changes in
+    let frees = subst (λ (z : View). acts.Frees IsMap y_id z (a g k).number (c.in-Some-lock_node.free + 4) (d g s) (Writes q z (a g k).number (d g s))) (sym (client g t)) updates in
+    may_free c.left_in-left.new.seat.view c.left_in-left.new.seat.book c.in-Some.words.now c.in-Some-lock_node.free (a g k) h.content (d g s) (counted g t) c.index-words-0.result.key (at_k g t) (Writes q) y_id (c.in-Some-lock_node.free + 4) frees
 
 pub returns : goal.returns
 returns g c =
-    let v = c.args.seat.now.view in
-    let name = c.args.name in
-    let key = c.args.key in
-    let words = c.in-Some.words.now in
-    let free = c.in-Some-lock_node.free in
-    let w = c.lock_node.new.seat.view in
-    let t = c.lock_node.ensures.told in
-    let locked : c.lock_node.result ≡ Some free = search rules in
-    let h = taken_by c.lock_node.result free locked (HasLocked v w name key 1) t.2 in
-    let book = t.0 ∙ c.requires.book in
-    let b = c.lock_node.new.seat.book in
-    let are = subst (λ z. AreNamed z name words) (sym book) c.in-Some.ensures in
-    let one = holds_one v w name key 1 free h b words are c.requires.rests.0 c.requires.rests.1 in
-    let a = h.names.spot in
-    let form = c.form_below-form.ensures a.shape.key a.shape.form h.names.named in
-    let u = c.set.new.seat.view in
-    let r = c.set.ensures.seat.others in
-    let d = draft_of (nth 0 u.holds) in
-    let on = wrote_one w u b words free a h.content h.content one (ap (λ s. s.view) r) in
-    let same_book = ap (λ s. s.book) r in
-    let on_set = subst (λ z. HoldsOne u z words free a h.content d) (sym same_book) on.0 in
-    let looked = c.left_in-left.ensures.seat.same in
-    let y = c.left_in-left.new.seat.view in
-    let y_book = c.left_in-left.new.seat.book in
-    let y_id = c.left_in-left.new.seat.id in
-    let on_book = subst (λ s. HoldsOne s.view s.book words free a h.content d) (sym looked) on_set in
-    let y_client = ap (λ s. s.view.client) looked ∙ on.2 in
-    let written = c.set.ensures.is in
-    let was = draft_is w b words free a h.content h.content one in
-    let first = c.index-words-0.result in
-    let at_k = (first_word (place_at a) y_book words on_book.are first first (sym c.index-words-0.is)).0 in
+    let t = (goal.at.returns g c).After-index-words-0 in
+    let s = written g t in
+    let k = locked_of g t in
     let q = g.U.Updates.update in
-    let done : c.set.result ≡ None = search rules in
-    let by = c.requires.asks.1 ∙ sym (ap (λ s. s.id) looked ∙ (ap (λ s. s.id) r ∙ t.1)) in
-    let digit_is = c.byte_at-byte.ensures ∙ ap (digit 1) (sym c.requires.asks.0) in
-    let covers = ap (up a.shape.height) c.requires.asks.0 ∙ h.names.covers in
-    let long = c.set.ensures.long ∙ ap words_of form in
-    let changes = set_leaf q c.byte_at-byte.result c.args.old c.args.new digit_is c.requires.values.0 c.requires.values.1 c.form_below-form.result h.content (draft_of (nth 0 w.holds)) d was c.set.result done written a.shape.form (sym form) in
-    let frees = subst (λ (z : View). acts.Frees IsMap y_id z a.number (free + 4) d (Writes q z a.number d)) (sym y_client)
-    (leaf_updates q c.requires.legal y_id by w.client a h.content one.own h.names.high covers (free + 4) (free / 4 + 1) (let even = h.even in omega (arith, even)) d long changes) in
     let x = c.unlock.new.seat.view in
     let e = c.unlock.ensures.seat in
-    let f = is_freed y y_book words free a h.content d on_book first.key at_k (Writes q) x (free + 4) c.unlock.ensures.told in
-    let i = f.2 in
-    let seen = ap (λ (z : View). z.seen) y_client ∙ h.seen in
-    let answers = subst (λ (z : List (Entry ℕ) × List (Entry ℕ)). Answers q.caller q.entry z.0 z.1) (λ i. (seen i, sym (ap (λ (z : SeatView View). z.client.seen) f.1) i)) i.answers in
+    let looked = c.left_in-left.ensures.seat.same in
+    let f = is_freed c.left_in-left.new.seat.view c.left_in-left.new.seat.book c.in-Some.words.now c.in-Some-lock_node.free (a g k) (leaf g k).content (d g s) (counted g t) c.index-words-0.result.key (at_k g t) (Writes q) x (c.in-Some-lock_node.free + 4) c.unlock.ensures.told in
+    let seen = ap (λ (z : View). z.seen) (client g t) ∙ (leaf g k).seen in
     record {
       told = (
-        e.0 ∙ (ap (λ s. s.book) looked ∙ (same_book ∙ t.0)),
-        e.1 ∙ (ap (λ s. s.id) looked ∙ (ap (λ s. s.id) r ∙ t.1)),
+        e.0 ∙ (ap (λ z. z.book) looked ∙ book g s),
+        e.1 ∙ (ap (λ z. z.id) looked ∙ id g s),
         record {
-          own = ap (λ (z : SeatView View). z.client.own) f.1 ∙ ap (λ (z : View). z.own) i.is;
-          holds = ap (λ (z : SeatView View). z.holds) f.1;
-          alike = alike_then v u x (alike_then v w u h.alike on.1) record {
-            places = ap (λ (z : SeatView View). z.places) f.1 ∙ ap (λ s. s.view.places) looked;
-            met = ap (λ (z : SeatView View). z.client.met) f.1 ∙ (ap (λ (z : View). z.met) i.is ∙ ap (λ s. s.view.client.met) looked);
-            room = ap (λ (z : SeatView View). z.room) f.1 ∙ ap (λ s. s.view.room) looked;
+          own = ap (λ (z : Seen). z.client.own) f.1 ∙ ap (λ (z : View). z.own) f.2.is;
+          holds = ap (λ (z : Seen). z.holds) f.1;
+          alike = alike_then c.args.seat.now.view c.set.new.seat.view x (alike g s) record {
+            places = ap (λ (z : Seen). z.places) f.1 ∙ ap (λ z. z.view.places) looked;
+            met = ap (λ (z : Seen). z.client.met) f.1 ∙ (ap (λ (z : View). z.met) f.2.is ∙ ap (λ z. z.view.client.met) looked);
+            room = ap (λ (z : Seen). z.room) f.1 ∙ ap (λ z. z.view.room) looked;
           };
         },
-        answers,
+        subst (λ (z : List (Entry ℕ) × List (Entry ℕ)). Answers q.caller q.entry z.0 z.1) (λ i. (seen i, sym (ap (λ (z : Seen). z.client.seen) f.1) i)) f.2.answers,
       );
     }
