@@ -9,7 +9,7 @@
  *   - what a range or a next pair has at a key that all threads write is no older than what the thread has seen there
  *   - counters that are raised by compare_exchange and by add lose nothing
  *
- *     live_load [CALLS] [THREADS]     so many calls a thread */
+ *     live_load [CALLS] [THREADS] [SEED]     so many calls a thread, drawn by this number */
 #include "congee.h"
 #include <inttypes.h>
 #include <pthread.h>
@@ -19,7 +19,7 @@
 
 enum { MOST = 32, KEYS = 64, KINDS = 3, PAGE = 8 };
 
-static uint64_t calls = 100000, threads = 4;
+static uint64_t calls = 100000, threads = 4, first_seed;
 
 /* A write: what it took the place of, and what it stored. 0 is no value, and what a removal stores. */
 struct write {
@@ -170,7 +170,7 @@ static void call(struct worker *worker, uint64_t place, uint64_t kind) {
 
 static void *together(void *at) {
     struct worker *worker = at;
-    uint64_t seed = worker->id;
+    uint64_t seed = first_seed * MOST + worker->id;
     for (uint64_t i = 0; i < calls && !worker->wrong; i++) {
         uint64_t kind = next(&seed) % 11, place = next(&seed) % KEYS;
         if (kind < 10)
@@ -367,6 +367,7 @@ int main(int words, char **word) {
     uint64_t count = 0, busy = 0;
     calls = words > 1 ? strtoull(word[1], NULL, 10) : calls;
     threads = words > 2 ? strtoull(word[2], NULL, 10) : threads;
+    first_seed = words > 3 ? strtoull(word[3], NULL, 10) : first_seed;
     if (threads == 0 || threads >= MOST || congee_live_new(&first))
         return 1;
     for (uint64_t i = 0; i < threads; i++) {
