@@ -1,25 +1,21 @@
-//! The maps that threads share, beside the map with one owner in a mutex: one line of times for each form and round.
+//! The maps that the C library lacks: `congee::locked`, `congee::shared`, and the protocol's machine. One line of times for each
+//! form and round. `tools/c/form_times.c` times other maps in the same columns, and `tools/dev/bench-threads` makes a table of both.
 //!
 //! A line is: the kind of the keys, the form, and then, in hundredths of a nanosecond a call of one thread: filling the first seven
 //! tenths by one thread; a tenth of new keys each by one, two and four threads; `get` by one, two and four; overwriting and
 //! removing likewise. The form `alone` is the machine without a lock, by one thread, and `events` an event of its `get` and, as a
-//! removal, a `reclaim_next` that finds nothing. The form `live` has no removals. Without an argument nothing is measured (the
-//! gate runs the program so); `tools/dev/bench-threads` makes a table.
+//! removal, a `reclaim_next` that finds nothing. Without an argument nothing is measured (the gate runs the program so).
 #![tactic(auto)]
 
 ghost use Rattle.std.specs.Prelude.{◌≡◌, ◌+◌, ◌^◌};
 
 mod alone;
-mod hand;
 mod keys;
-mod live;
 mod shares;
 mod work;
 
 use crate::alone::alone;
-use crate::hand::{bare_holds, by_hand, owned};
 use crate::keys::{dense, random, shuffled};
-use crate::live::live;
 use crate::shares::shared;
 use crate::work::Times;
 use node_table::allocator::DefaultAllocator;
@@ -70,10 +66,7 @@ fn rounds<R: Threads + Wait + Clock + Sync, W: Write>(
     let order = shuffled(alloc, fill.as_slice())?;
     let few = order.as_slice().get(..FEW).ok_or("few keys")?;
     for _ in 0..ROUNDS {
-        if form == "live" {
-            let t = live(rt, alloc, fill.as_slice(), order.as_slice())?;
-            print_times(out, kind, "live", t)?;
-        } else if form == "shared" {
+        if form == "shared" {
             let t = shared::<Brand, Machine, _>(
                 rt,
                 alloc,
@@ -94,12 +87,6 @@ fn rounds<R: Threads + Wait + Clock + Sync, W: Write>(
                 order.as_slice(),
             )?;
             print_times(out, kind, "locked", t)?;
-            let t = by_hand(rt, alloc, fill.as_slice(), order.as_slice())?;
-            print_times(out, kind, "hand", t)?;
-            let t = owned(rt, alloc, fill.as_slice(), order.as_slice())?;
-            print_times(out, kind, "owned", t)?;
-            let t = bare_holds(rt, order.as_slice())?;
-            print_times(out, kind, "hold", t)?;
         }
     }
     Ok(())
@@ -114,7 +101,7 @@ fn main(rt: HostRuntime) -> Result<(), Fail> {
     let is_all = word.as_str() == "all";
     let alloc = rt.alloc();
     let mut out = rt.stdout();
-    for form in ["locked", "live", "shared"] {
+    for form in ["locked", "shared"] {
         if is_all || word.as_str() == form {
             rounds(&rt, alloc, &mut out, false, form)?;
             rounds(&rt, alloc, &mut out, true, form)?;
