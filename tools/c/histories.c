@@ -27,7 +27,8 @@ void free_record(struct record *record) {
 }
 
 /* What may be so at an end: the content, and how many steps of its open call each thread has made. Of a count, which numbers
- * it may have come to after so many steps: a bit each. */
+ * it may have come to after so many steps: a bit each. Of a removal of a range, which keys had their moments, a bit each, and
+ * first in `counted` how many it removed. */
 struct configuration {
     uint64_t value[MOST_WHOLE];
     uint64_t present;
@@ -185,12 +186,14 @@ static bool is_pop(const struct call *call) {
 
 /* Whether a pop finds its pair in some steps, and removes the pair in one more. */
 static bool is_pop_by_steps(const struct search *search, const struct call *call) {
-    return is_pop(call) && !search->is_of_one_moment;
+    return is_pop(call) && (!search->is_of_one_moment || call->is_in_two);
 }
 
-/* How many steps a call has. */
+/* How many steps a call has. Of a removal of a range, which keys. */
 static size_t steps_of(const struct search *search, const struct call *call) {
     size_t steps = 0;
+    if (call->kind == REMOVE_RANGE)
+        return call->passed;
     if (call->kind != FIND && call->kind != FIND_DOWN && call->kind != COUNT && !is_pop_by_steps(search, call))
         return 1;
     while (keys_of_step(search, call, steps))
@@ -198,9 +201,29 @@ static size_t steps_of(const struct search *search, const struct call *call) {
     return steps + (is_pop_by_steps(search, call) && call->code == 1);
 }
 
-/* Makes the next step of a thread's open call. Returns whether it may be made there. */
-static bool advance(const struct search *search, size_t thread, struct configuration *it) {
+/* Makes the moment of this key in a thread's removal of a range. Returns whether it may be made there. */
+static bool take(const struct search *search, size_t thread, size_t key, struct configuration *it) {
     const struct call *call = &search->calls[thread][search->at[thread]];
+    uint64_t bit = (uint64_t)1 << key;
+    uint16_t *removed = it->counted[thread];
+    if (!(call->passed & bit & ~it->made[thread]))
+        return false;
+    it->made[thread] |= bit;
+    *removed += it->present >> key & 1;
+    remove_keys(it, bit);
+    if (it->made[thread] != call->passed)
+        return *removed <= call->answer;
+    bool may = *removed == call->answer;
+    *removed = 0;
+    return may;
+}
+
+/* Makes the next step of a thread's open call, or of a removal of a range the one at this key. Returns whether it may be made
+ * there. */
+static bool advance(const struct search *search, size_t thread, size_t at_key, struct configuration *it) {
+    const struct call *call = &search->calls[thread][search->at[thread]];
+    if (call->kind == REMOVE_RANGE)
+        return take(search, thread, at_key, it);
     size_t step = it->made[thread]++;
     uint64_t keys;
     bool is_present, may;
@@ -288,8 +311,23 @@ static void read_on(const struct search *search, const size_t *steps, struct con
         if (call->kind == COUNT)
             count_on(search, i, steps[i], it);
         else
-            while (it->made[i] < reads && advance(search, i, &next))
+            while (it->made[i] < reads && advance(search, i, 0, &next))
                 *it = next;
+    }
+}
+
+/* Adds what is reached from there by a step of a thread's open call that changes something. */
+static void step_on(struct search *search, size_t thread, const size_t *steps, const struct configuration *it) {
+    const struct call *call = &search->calls[thread][search->at[thread]];
+    size_t ways = call->kind == REMOVE_RANGE ? search->keys : 1;
+    if (it->made[thread] == steps[thread] || it->made[thread] < reading_steps(search, call, steps[thread]))
+        return;
+    for (size_t way = 0; way < ways; way++) {
+        struct configuration next = *it;
+        if (!advance(search, thread, way, &next))
+            continue;
+        read_on(search, steps, &next);
+        search->fits = add(&reached, &next) && search->fits;
     }
 }
 
@@ -311,15 +349,8 @@ static bool ends(struct search *search, size_t thread) {
             continue;
         }
         search->work++;
-        for (size_t other = 0; other < search->threads; other++) {
-            struct configuration next = it;
-            if (it.made[other] == steps[other] ||
-                it.made[other] < reading_steps(search, &search->calls[other][search->at[other]], steps[other]) ||
-                !advance(search, other, &next))
-                continue;
-            read_on(search, steps, &next);
-            search->fits = add(&reached, &next) && search->fits;
-        }
+        for (size_t other = 0; other < search->threads; other++)
+            step_on(search, other, steps, &it);
     }
     empty(&reached);
     empty(&now);
@@ -365,7 +396,7 @@ static enum verdict run(struct search *search, const struct configuration *first
 
 static const char *const names[] = {"get",           "insert",  "remove",    "compare_exchange", "compare_remove", "add",
                                     "get_or_insert", "compute", "refused",   "find",             "find downwards", "count",
-                                    "is filled",     "pop",     "pop last", "clear"};
+                                    "is filled",     "pop",     "pop last",  "clear",            "remove range"};
 
 static void print_call(const struct call *call, size_t thread, FILE *out) {
     fprintf(out, "  %" PRIu64 " to %" PRIu64 ", thread %zu: %s", call->start, call->end, thread, names[call->kind]);
@@ -379,7 +410,7 @@ static void print_call(const struct call *call, size_t thread, FILE *out) {
             fprintf(out, " with %" PRIu64, call->argument);
     }
     fprintf(out, " -> %d", call->code);
-    if (call->code > 0 || call->kind == COUNT)
+    if (call->code > 0 || call->kind == COUNT || call->kind == REMOVE_RANGE)
         fprintf(out, ", %" PRIu64, call->answer);
     size_t rank = 0;
     for (size_t i = 0; i < MOST_KEYS; i++)
@@ -463,7 +494,7 @@ static bool is_of_key(const struct call *call, uint64_t key, struct call *alone)
         return false;
     alone->code = call->found >> key & 1;
     alone->answer = alone->code ? call->values[__builtin_popcountll(call->found & (((uint64_t)1 << key) - 1))] : 0;
-    alone->kind = is_pop(call) && alone->code ? REMOVE : GET;
+    alone->kind = call->kind == REMOVE_RANGE ? CLEAR : is_pop(call) && alone->code ? REMOVE : GET;
     return true;
 }
 

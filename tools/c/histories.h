@@ -9,10 +9,11 @@
  *
  *   - explain, for few keys: the map as a whole. A range, an end, a pop or a count has one moment. Where the map's aren't of
  *     one moment, it has one for all keys that share a leaf, in the order in which it reads, and a pop one more, at which it
- *     removes the pair that it found
+ *     removes the pair that it found. A removal of a range has a moment for each key, in any order, at which it removes the
+ *     key if that is there
  *   - explain_by_key, for many keys: each key by itself. A range is a look-up of each key that it passed, and a pop is that
- *     and a removal of its pair. Counts and clears aren't searched. Objects are linearizable together where each one is
- *     (Herlihy and Wing, Linearizability, 1990)
+ *     and a removal of its pair. Counts, and how many pairs a removal of a range removed, aren't searched, and clears neither.
+ *     Objects are linearizable together where each one is (Herlihy and Wing, Linearizability, 1990)
  *
  * The search goes through starts and ends by their numbers. It keeps each pair of a content and the calls that are made by
  * then (Wing and Gong, Testing and Verifying Concurrent Objects, 1993). A call is put in order only when a call's end
@@ -47,7 +48,8 @@ enum kind {
     IS_FILLED,
     POP,
     POP_DOWN,
-    CLEAR
+    CLEAR,
+    REMOVE_RANGE
 };
 
 /* Keys go by their numbers, in ascending order of keys. Sets of keys have a bit for each. */
@@ -58,7 +60,8 @@ struct call {
     uint64_t key, argument, expected, answer;
     int left;               /* of COMPUTE: whether the key is there afterwards, with the argument as its value */
     bool is_by_key;         /* of FIND_DOWN: keys that share a leaf have a moment each where ranges aren't of one moment */
-    uint64_t passed, found; /* of FIND, FIND_DOWN and pops: which keys it passed, and which of them it found */
+    bool is_in_two;         /* of pops: the pair is removed at a moment of its own, also where ranges are of one moment */
+    uint64_t passed, found; /* of FIND, FIND_DOWN, pops and REMOVE_RANGE: which keys it passed, and which of them it found */
     const uint64_t *values; /* what was found at these, in ascending order of keys */
 };
 

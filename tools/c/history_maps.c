@@ -38,6 +38,8 @@
          it, from, to, all, n, written)                                                                                     \
     CALL(map, pop_first, (void *it, struct congee_pair *pair), it, pair)                                                    \
     CALL(map, pop_last, (void *it, struct congee_pair *pair), it, pair)                                                     \
+    CALL(map, pop_first_to, (void *it, uint64_t key, struct congee_pair *pair), it, key, pair)                              \
+    CALL(map, pop_last_from, (void *it, uint64_t key, struct congee_pair *pair), it, key, pair)                             \
     CALL(map, is_empty, (void *it), it)                                                                                     \
     CALL(map, count, (void *it, uint64_t *count), it, count)
 CALLS_OF_ALL(live)
@@ -48,10 +50,18 @@ CALL(alone, clear, (void *it), it)
 
 #define waits_live_is(name) congee_live_##name
 #define waits_shared_is(name) congee_shared_##name
+#define waits_alone_is(name) stand_in_##name
 CALL(waits_live, compute, (void *it, uint64_t key, congee_updater *f, void *with, uint64_t *old), it, key, f, with, old)
 CALL(waits_live, pop_first, (void *it, struct congee_pair *pair), it, pair)
 CALL(waits_live, pop_last, (void *it, struct congee_pair *pair), it, pair)
 CALL(waits_shared, compute, (void *it, uint64_t key, congee_updater *f, void *with, uint64_t *old), it, key, f, with, old)
+#define WITH_BOUNDS(map)                                                                                                    \
+    CALL(map, pop_first_to, (void *it, uint64_t key, struct congee_pair *pair), it, key, pair)                              \
+    CALL(map, pop_last_from, (void *it, uint64_t key, struct congee_pair *pair), it, key, pair)                             \
+    CALL(map, remove_range_inclusive, (void *it, uint64_t from, uint64_t last), it, from, last)
+WITH_BOUNDS(waits_live)
+WITH_BOUNDS(waits_shared)
+CALL(waits_alone, remove_range_inclusive, (void *it, uint64_t from, uint64_t last), it, from, last)
 
 /* Functions that make, share and free a map of this type. */
 #define ENDS(map, type, made, shared, freed)                                                                                \
@@ -91,12 +101,17 @@ static int sharded_new(uint64_t limit, void **out) {
     .get_or_insert = map##_get_or_insert, .compute = map##_compute, .range = map##_range,                                   \
     .range_inclusive = map##_range_inclusive, .range_descending = map##_range_descending, .first = map##_first,             \
     .last = map##_last, .floor = map##_floor, .ceiling = map##_ceiling, .below = map##_below, .above = map##_above,         \
-    .pop_first = map##_pop_first, .pop_last = map##_pop_last, .is_empty = map##_is_empty, .count = map##_count
-#define SHARED_ENTRIES ENTRIES_OF_ALL(shared), .is_of_one_moment = true, .waits_compute = waits_shared_compute, .clear = shared_clear
+    .pop_first = map##_pop_first, .pop_last = map##_pop_last, .pop_first_to = map##_pop_first_to,                           \
+    .pop_last_from = map##_pop_last_from, .waits_remove_range_inclusive = waits_##map##_remove_range_inclusive,             \
+    .is_empty = map##_is_empty, .count = map##_count
+#define WAITING_ENTRIES(map)                                                                                                \
+    .waits_compute = waits_##map##_compute, .waits_pop_first_to = waits_##map##_pop_first_to,                               \
+    .waits_pop_last_from = waits_##map##_pop_last_from
+#define SHARED_ENTRIES ENTRIES_OF_ALL(shared), WAITING_ENTRIES(shared), .is_of_one_moment = true, .clear = shared_clear
 const struct map_kind live_map = {"live",
                                   .make = live_new,
                                   ENTRIES_OF_ALL(live),
-                                  .waits_compute = waits_live_compute,
+                                  WAITING_ENTRIES(live),
                                   .waits_pop_first = waits_live_pop_first,
                                   .waits_pop_last = waits_live_pop_last};
 const struct map_kind locked_map = {"locked", .make = shared_new, SHARED_ENTRIES};
@@ -107,7 +122,7 @@ const struct map_kind stand_in_by_leaf = {"stand-in read by leaf", .make = alone
 
 bool is_fault_by_leaf(int fault) {
     return fault == POPPED_TWICE || fault == POPPED_BEHIND || fault == CHANGE_IN_TWO || fault == TORN_LEAF ||
-           fault == SKIPPED_PAIR || fault == NEIGHBOUR_TOO_FAR;
+           fault == SKIPPED_PAIR || fault == NEIGHBOUR_TOO_FAR || fault == BOUND_LEFT_OUT;
 }
 
 /* -- Keys -- */
@@ -502,30 +517,81 @@ static void call_is_empty(struct caller *caller, bool waits) {
         caller->wrong = "a map with keys that stay is empty";
 }
 
-/* The pop itself: of all, of the first pair, or of the last one, by the form that waits where that is a loop of its own. */
-static int make_pop(const struct caller *caller, uint64_t which, bool waits, struct congee_pair *pair) {
+/* Pops and the like: the number of each. Those up to BOUNDED_LAST return a pair. */
+enum { POP_FIRST, POP_LAST, BOUNDED_FIRST, BOUNDED_LAST, TAKE_RANGE, TAKE_ALL };
+
+/* The pop itself: of the first pair or of the last one, without a bound or with one, by the form that waits where that is a loop
+ * of its own. */
+static int make_pop(const struct caller *caller, int which, uint64_t bound, bool waits, struct congee_pair *pair) {
     const struct map_kind *kind = caller->kind;
-    if (which == 0)
-        return kind->clear(caller->map);
-    if (which == 1)
+    switch (which) {
+    case POP_FIRST:
         return (waits && kind->waits_pop_first ? kind->waits_pop_first : kind->pop_first)(caller->map, pair);
-    return (waits && kind->waits_pop_last ? kind->waits_pop_last : kind->pop_last)(caller->map, pair);
+    case POP_LAST:
+        return (waits && kind->waits_pop_last ? kind->waits_pop_last : kind->pop_last)(caller->map, pair);
+    case BOUNDED_FIRST:
+        return (waits && kind->waits_pop_first_to ? kind->waits_pop_first_to : kind->pop_first_to)(caller->map, bound, pair);
+    default:
+        return (waits && kind->waits_pop_last_from ? kind->waits_pop_last_from : kind->pop_last_from)(caller->map, bound, pair);
+    }
 }
 
-/* A pop of the first or last pair, or of all. Only where no key stays. */
-static void call_pop(struct caller *caller, uint64_t which, bool waits) {
+/* A pop has passed the keys up to its pair or, where it found none, up to its bound. */
+static void call_pop(struct caller *caller, int which, bool waits) {
     struct congee_pair pair = {0, 0};
-    struct call call = {.kind = which == 0 ? CLEAR : which == 1 ? POP : POP_DOWN};
+    bool is_down = which == POP_LAST || which == BOUNDED_LAST, is_bounded = which >= BOUNDED_FIRST;
+    uint64_t from = 0, last = UINT64_MAX;
+    struct call call = {.kind = is_down ? POP_DOWN : POP, .is_in_two = is_bounded};
+    if (is_bounded)
+        *(is_down ? &from : &last) = near_key(caller);
     call.start = clock_now();
-    while (call.code = make_pop(caller, which, waits, &pair), is_again(caller, call.code, waits)) {
+    while (call.code = make_pop(caller, which, is_down ? from : last, waits, &pair), is_again(caller, call.code, waits)) {
     }
     call.end = clock_now();
     if (call.code == CONGEE_BUSY)
         return;
-    if (which > 0)
-        note_found(caller, &call, &pair, call.code == 1, call.code == 1 && which == 2 ? pair.key : 0,
-                   call.code == 1 && which == 1 ? pair.key : UINT64_MAX);
+    if (call.code == 1 && is_down && pair.key > from)
+        from = pair.key;
+    else if (call.code == 1 && !is_down && pair.key < last)
+        last = pair.key;
+    note_found(caller, &call, &pair, call.code == 1, from, last);
     write_down(caller, call);
+}
+
+/* A removal of a range of a few keys. */
+static void call_range_removal(struct caller *caller) {
+    const struct key_set *set = caller->set;
+    size_t first = next_random(&caller->random) % set->count, few = next_random(&caller->random) % 4,
+           end = first + few < set->count ? first + few : set->count - 1;
+    struct call call = {.kind = REMOVE_RANGE, .passed = keys_between(set, set->keys[first], set->keys[end])};
+    call.start = clock_now();
+    call.answer = (uint64_t)caller->kind->waits_remove_range_inclusive(caller->map, set->keys[first], set->keys[end]);
+    call.end = clock_now();
+    if (call.answer > end - first + 1)
+        caller->wrong = "more pairs are removed than a range has keys";
+    write_down(caller, call);
+}
+
+static void call_clear(struct caller *caller, bool waits) {
+    struct call call = {.kind = CLEAR};
+    call.start = clock_now();
+    while (call.code = caller->kind->clear(caller->map), is_again(caller, call.code, waits)) {
+    }
+    call.end = clock_now();
+    if (call.code != CONGEE_BUSY)
+        write_down(caller, call);
+}
+
+/* A pop, or a removal of more. Only where no key stays. */
+static void call_taking(struct caller *caller, uint64_t random, bool waits) {
+    /* (a clear isn't searched key by key) */
+    int which = (int)(random % (caller->kind->clear && is_small(caller->set) ? TAKE_ALL + 1 : TAKE_ALL));
+    if (which == TAKE_ALL)
+        call_clear(caller, waits);
+    else if (which == TAKE_RANGE)
+        call_range_removal(caller);
+    else
+        call_pop(caller, which, waits);
 }
 
 /* One of the keys at which this caller makes calls of one key. */
@@ -549,8 +615,7 @@ void call_at_random(struct caller *caller) {
     else if (which == 61)
         call_count(caller, waits);
     else if (caller->set->stays == 0)
-        /* (a clear isn't searched key by key) */
-        call_pop(caller, caller->kind->clear && is_small(caller->set) ? (random >> 8) % 3 : 1 + (random >> 8) % 2, waits);
+        call_taking(caller, random >> 8, waits);
     else
         call_key(caller, GET, some_key(caller), waits);
 }

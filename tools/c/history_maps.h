@@ -11,7 +11,7 @@
 /* The calls that the maps share, each in the form that may be busy. Where a map lacks one it is null. */
 struct map_kind {
     const char *name;
-    bool is_of_one_moment; /* each range, end, pop and count is */
+    bool is_of_one_moment; /* each range, end, count and pop without a bound is */
     int (*make)(uint64_t limit, void **out);
     int (*another)(void *map, void **out);
     void (*free)(void *map);
@@ -34,10 +34,15 @@ struct map_kind {
     int (*above)(void *map, uint64_t key, struct congee_pair *pair);
     int (*pop_first)(void *map, struct congee_pair *pair);
     int (*pop_last)(void *map, struct congee_pair *pair);
-    /* forms that wait, where these are loops of their own */
+    int (*pop_first_to)(void *map, uint64_t key, struct congee_pair *pair);
+    int (*pop_last_from)(void *map, uint64_t key, struct congee_pair *pair);
+    /* forms that wait, where these are loops of their own, or the map has no other */
     int (*waits_compute)(void *map, uint64_t key, congee_updater *f, void *with, uint64_t *old);
     int (*waits_pop_first)(void *map, struct congee_pair *pair);
     int (*waits_pop_last)(void *map, struct congee_pair *pair);
+    int (*waits_pop_first_to)(void *map, uint64_t key, struct congee_pair *pair);
+    int (*waits_pop_last_from)(void *map, uint64_t key, struct congee_pair *pair);
+    int (*waits_remove_range_inclusive)(void *map, uint64_t start, uint64_t last);
     int (*clear)(void *map);
     int (*is_empty)(void *map);
     int (*count)(void *map, uint64_t *count);

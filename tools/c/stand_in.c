@@ -21,6 +21,9 @@ const char *const stand_in_faults[FAULTS] = {"no fault",
                                              "a pair that is popped twice",
                                              "a pop of the pair behind the end",
                                              "a change by a function in two holds",
+                                             "a pop that leaves its bound out",
+                                             "a removal of a range in two holds",
+                                             "a pair that a removal of a range leaves",
                                              "a pair that a clear leaves",
                                              "a busy call that was made",
                                              "a present key that is refused for memory"};
@@ -338,6 +341,47 @@ int stand_in_try_pop_first(struct stand_in *map, struct congee_pair *pair) {
 
 int stand_in_try_pop_last(struct stand_in *map, struct congee_pair *pair) {
     return pop(map, false, pair);
+}
+
+/* A pop with a bound, which is the greatest key of a pop from below, and the least of one from above. */
+static int pop_within(struct stand_in *map, bool is_first, uint64_t bound, struct congee_pair *pair) {
+    hold(map);
+    struct pairs *pairs = &map->shared->pairs;
+    struct congee_pair end = {0, 0};
+    bool is_there = pairs->count > 0;
+    if (is_there) {
+        end = pairs->all[is_first ? 0 : pairs->count - 1];
+        is_there = (is_first ? end.key <= bound : end.key >= bound) && !(end.key == bound && has(BOUND_LEFT_OUT));
+    }
+    if (is_there) {
+        *pair = end;
+        take(pairs, end.key);
+    }
+    give_back(map);
+    return is_there;
+}
+
+int stand_in_try_pop_first_to(struct stand_in *map, uint64_t key, struct congee_pair *pair) {
+    return pop_within(map, true, key, pair);
+}
+
+int stand_in_try_pop_last_from(struct stand_in *map, uint64_t key, struct congee_pair *pair) {
+    return pop_within(map, false, key, pair);
+}
+
+uint64_t stand_in_remove_range_inclusive(struct stand_in *map, uint64_t start, uint64_t last) {
+    hold(map);
+    struct pairs *pairs = &map->shared->pairs;
+    size_t at = place_of(pairs, start), found = 0;
+    while (at + found < pairs->count && pairs->all[at + found].key <= last)
+        found++;
+    bool is_left = found > 0 && has(LEFT_IN_RANGE);
+    if (found > 0 && has(TAKEN_IN_TWO))
+        let_in(map);
+    for (at = place_of(pairs, start) + is_left; at < pairs->count && pairs->all[at].key <= last;)
+        take(pairs, pairs->all[at].key);
+    give_back(map);
+    return found - is_left;
 }
 
 int stand_in_try_clear(struct stand_in *map) {

@@ -21,6 +21,9 @@ enum fault {
     POPPED_TWICE,        /* a pop looks in one hold, and removes in another */
     POPPED_BEHIND,       /* a pop removes the pair behind the end */
     CHANGE_IN_TWO,       /* a change by a function looks in one hold, and stores in another */
+    BOUND_LEFT_OUT,      /* a pop with a bound finds none where the pair at its bound is the first */
+    TAKEN_IN_TWO,        /* a removal of a range looks and counts in one hold, and removes in another */
+    LEFT_IN_RANGE,       /* a removal of a range leaves a pair */
     KEPT_AFTER_CLEAR,    /* a clear leaves the last pair */
     BUSY_BUT_MADE,       /* a call says that it was busy, and was made */
     REFUSED_BUT_PRESENT, /* an insertion at a present key is refused for memory */
@@ -61,6 +64,9 @@ int stand_in_try_above(const struct stand_in *map, uint64_t key, struct congee_p
 int stand_in_try_pop_first(struct stand_in *map, struct congee_pair *pair);
 int stand_in_try_pop_last(struct stand_in *map, struct congee_pair *pair);
 int stand_in_try_clear(struct stand_in *map);
+int stand_in_try_pop_first_to(struct stand_in *map, uint64_t key, struct congee_pair *pair);
+int stand_in_try_pop_last_from(struct stand_in *map, uint64_t key, struct congee_pair *pair);
+uint64_t stand_in_remove_range_inclusive(struct stand_in *map, uint64_t start, uint64_t last);
 int stand_in_try_is_empty(const struct stand_in *map);
 int stand_in_try_count(const struct stand_in *map, uint64_t *count);
 
