@@ -149,8 +149,28 @@ read_second j k r s rs is_r is_s ne =
     ap (λ (b : Bool). cond b (Some r) (read_of k (s ∷ rs))) (ne_eqb k r.number (λ e. ne (e ∙ is_r)))
     ∙ ap (λ (b : Bool). cond b (Some s) (read_of k rs)) (eq-eqb k s.number (sym is_s))
 
-module _ (v : Seen) (b : Book) (words : List Name) (t name key height byte word : ℕ) (n : IsNear v b words t name key height (Some (byte, word))) (high : 2 ≤ height) (low_byte : byte < 256) (below : ℕ) (c : Sights v below) (is_child : (s : ℕ) → IsWord word (Below s) → s ≡ below) (other_name : below ≢ name)
-    (v₂ : Seen) (b₂ : Book) (words₂ : List Name) (t₂ : ℕ) (keeps₂ : Keeps v v₂) (opened₂ : HasOpened v₂ b₂ words₂ t₂ c.spot) (reads₂ : v₂.reads ≡ read c.spot.number t₂ [] ∷ v.reads) (v₃ : Seen) (rest₃ : without_reads v₃ ≡ without_reads v₂) (k : ℕ) (at_k : (place_at c.spot).key ≡ k) where
+-- It is open, and was read since.
+pub record ChildRead (v : Seen) (b : Book) (words : List Name) (t name key height byte word below : ℕ) (v₂ : Seen) (b₂ : Book) (words₂ : List Name) (t₂ : ℕ) (v₃ : Seen) (k : ℕ) : Type 0 where
+  pub near : IsNear v b words t name key height (Some (byte, word))
+  pub high : 2 ≤ height
+  pub low_byte : byte < 256
+  pub child : Sights v below
+  pub is_child : (s : ℕ) → IsWord word (Below s) → s ≡ below
+  pub apart : below ≢ name
+  pub keeps : Keeps v v₂
+  pub client : v₂.client ≡ v.client
+  pub opened : HasOpened v₂ b₂ words₂ t₂ child.spot
+  pub reads : v₂.reads ≡ read child.spot.number t₂ [] ∷ v.reads
+  pub rest : without_reads v₃ ≡ without_reads v₂
+  pub first : (place_at child.spot).key ≡ k
+
+module _ {v : Seen} {b : Book} {words : List Name} {t name key height byte word below : ℕ} {v₂ : Seen} {b₂ : Book} {words₂ : List Name} {t₂ : ℕ} {v₃ : Seen} {k : ℕ} (u : ChildRead v b words t name key height byte word below v₂ b₂ words₂ t₂ v₃ k) where
+  abbrev n : IsNear v b words t name key height (Some (byte, word))
+  n = u.near
+
+  abbrev c : Sights v below
+  c = u.child
+
   abbrev a : Spot
   a = n.here.names.spot
 
@@ -161,47 +181,48 @@ module _ (v : Seen) (b : Book) (words : List Name) (t name key height byte word 
   saw₃ = last_saw v₃.reads
 
   abbrev opened : HasOpened v₂ b₂ words₂ t₂ c.spot
-  opened = record { are = opened₂.are; saw = []; before = v.reads; reads = reads₂ }
+  opened = record { are = u.opened.are; saw = []; before = v.reads; reads = u.reads }
 
   placed₂ : IsIn (place_at c.spot) v₂.places
-  placed₂ = keeps₂.places (place_at c.spot) c.placed
+  placed₂ = u.keeps.places (place_at c.spot) c.placed
 
   had : HadBelow a (read a.number t saw) byte word
   had s is =
       let same : s.height ≡ height = ap (λ (z : Shape). z.height) (n.here.sure s is) ∙ n.here.names.high in
       let x = n.near is.content is.its is.agrees is.encodes is.in_form in
-      (omega (arith, same, high), x.1)
+      (let high = u.high in omega (arith, same, high), x.1)
 
   pub may_watch_next : (id m l : ℕ) → t₂ ≡ 4 * m → t ≡ 4 * l → MayCheck v₃ k IsMap id (LearnsBelow a.number (Some t)) t₂
-  may_watch_next id m l even free = may_check_open v₂ b₂ words₂ t₂ c.spot placed₂ opened v₃ rest₃ k at_k (LearnsBelow a.number (Some t)) id
-      (node_below id v₂.client c.spot (keeps₂.met c.spot c.met) t₂ saw₃ m even (read c.spot.number t₂ saw₃ ∷ v.reads)
-      a (keeps₂.met a n.here.names.met) (read a.number t saw) (inr (subst (IsIn (read a.number t saw)) (sym n.here.opened.reads) (inl refl))) refl l free
-      byte low_byte word had (λ s e. is_child s e ∙ c.named))
+  may_watch_next id m l even free = may_check_open v₂ b₂ words₂ t₂ c.spot placed₂ opened v₃ u.rest k u.first (LearnsBelow a.number (Some t)) id
+      (node_below id v₂.client c.spot (u.keeps.met c.spot c.met) t₂ saw₃ m even (read c.spot.number t₂ saw₃ ∷ v.reads)
+      a (u.keeps.met a n.here.names.met) (read a.number t saw) (inr (subst (IsIn (read a.number t saw)) (sym n.here.opened.reads) (inl refl))) refl l free
+      byte u.low_byte word had (λ s e. u.is_child s e ∙ c.named))
 
   module _ (w : Seen) (m : ℕ) (told : Checks (LearnsBelow a.number (Some t)) (reads k) v₃ m none_joined w) where
-    pub next_missed : m ≢ t₂ → Keeps v₂ w × (w.client ≡ v₂.client)
-    next_missed ne = open_missed v₂ b₂ words₂ t₂ c.spot placed₂ opened v₃ rest₃ k at_k (LearnsBelow a.number (Some t)) w m told ne
+    pub next_missed : m ≢ t₂ → Keeps v w × (w.client.seen ≡ v.client.seen)
+    next_missed ne =
+        let missed = open_missed v₂ b₂ words₂ t₂ c.spot placed₂ opened v₃ u.rest k u.first (LearnsBelow a.number (Some t)) w m told ne in
+        (keeps_then v v₂ w u.keeps missed.0, ap (λ (z : View). z.seen) (missed.1 ∙ u.client))
 
     next_checked : Plays.Checked (LearnsBelow a.number (Some t) v₂.client c.spot.number t₂ saw₃) t₂ (reading_on v₂ v.reads c.spot.number t₂ saw₃) m w
-    next_checked = open_checked v₂ b₂ words₂ t₂ c.spot placed₂ opened v₃ rest₃ k at_k (LearnsBelow a.number (Some t)) w m told
+    next_checked = open_checked v₂ b₂ words₂ t₂ c.spot placed₂ opened v₃ u.rest k u.first (LearnsBelow a.number (Some t)) w m told
 
     module _ (hit : m ≡ t₂) where
-      pub next_keeps : Keeps v₂ w × (w.client.seen ≡ v₂.client.seen)
+      pub next_keeps : Keeps v w × (w.client.seen ≡ v.client.seen)
       next_keeps =
           let h = next_checked.hit hit in
-          let x : Watches a.number (Some t) v₂.client c.spot saw₃ h.1 = h.3 c.spot (keeps₂.met c.spot c.met) refl in (
-            learned_keeps v₂ w h.0 h.1 (read c.spot.number t₂ saw₃ ∷ v.reads) h.2 (λ z in_it. subst (λ (y : View). IsIn z y.met) (sym x.watches) in_it) (ap (λ (y : View). y.own) x.watches),
-            ap (λ (z : Seen). z.client.seen) h.2 ∙ ap (λ (z : View). z.seen) x.watches,
-          )
+          let x : Watches a.number (Some t) v₂.client c.spot saw₃ h.1 = h.3 c.spot (u.keeps.met c.spot c.met) refl in
+          let learned = learned_keeps v₂ w h.0 h.1 (read c.spot.number t₂ saw₃ ∷ v.reads) h.2 (λ z in_it. subst (λ (y : View). IsIn z y.met) (sym x.watches) in_it) (ap (λ (y : View). y.own) x.watches) in
+          (keeps_then v v₂ w u.keeps learned, ap (λ (z : Seen). z.client.seen) h.2 ∙ (ap (λ (z : View). z.seen) x.watches ∙ ap (λ (z : View). z.seen) u.client))
 
       pub next_is : (b' : Book) → b' ≡ b → b' ≡ b₂ → t₂ % 4 ≡ 0 → (head first : ℕ) → first < 2 ^ 64 → ((d : Content) → Agree d saw₃ → cells.at d 0 ≡ head) → (low : ℕ) → ((form : ℕ) (p : List ℕ) → IsHead head form p → Sees p first (prefix_matches.Covers low))
           → IsNext w b' words t name key height byte word below low first words₂ t₂
       next_is b' book book₂ even head first fits at_head low sees =
           let h = next_checked.hit hit in
-          let x : Watches a.number (Some t) v₂.client c.spot saw₃ h.1 = h.3 c.spot (keeps₂.met c.spot c.met) refl in
-          let kw = keeps_then v v₂ w keeps₂ next_keeps.0 in
+          let x : Watches a.number (Some t) v₂.client c.spot saw₃ h.1 = h.3 c.spot (u.keeps.met c.spot c.met) refl in
+          let kw = next_keeps.0 in
           let e = watch a.number (Some t) (spot c.spot.number x.shape) in
-          let apart : a.number ≢ c.spot.number = λ same. other_name (c.named ∙ (sym (x.one_name a (keeps₂.met a n.here.names.met) same) ∙ sym n.here.names.named)) in
+          let apart : a.number ≢ c.spot.number = λ same. u.apart (c.named ∙ (sym (x.one_name a (u.keeps.met a n.here.names.met) same) ∙ sym n.here.names.named)) in
           let w_reads : w.reads ≡ read c.spot.number t₂ saw₃ ∷ v.reads = ap (λ (z : Seen). z.reads) h.2 in
           let all_reads : w.reads ≡ read c.spot.number t₂ saw₃ ∷ read a.number t saw ∷ n.here.opened.before = w_reads ∙ ap (λ (rs : List Read). read c.spot.number t₂ saw₃ ∷ rs) n.here.opened.reads in
           let by = covers_by first fits saw₃ head at_head low sees in
@@ -215,7 +236,7 @@ module _ (v : Seen) (b : Book) (words : List Name) (t name key height byte word 
             near = n.near;
             child = record {
               sighted = sights_kept v w kw below c;
-              opened = record { are = subst (λ (z : Book). AreOf (place_at c.spot) z words₂) (sym book₂) opened₂.are; saw = saw₃; before = v.reads; reads = w_reads };
+              opened = record { are = subst (λ (z : Book). AreOf (place_at c.spot) z words₂) (sym book₂) u.opened.are; saw = saw₃; before = v.reads; reads = w_reads };
               even = even;
               head = by;
             };
@@ -223,7 +244,7 @@ module _ (v : Seen) (b : Book) (words : List Name) (t name key height byte word 
             known = subst (λ (z : Seen). IsIn e z.client.watched) (sym h.2) (subst (λ (z : View). IsIn e z.watched) (sym x.watches) (inl refl));
             above = refl;
             free_by = refl;
-            spells = λ s is. is_child s is ∙ (c.named ∙ sym (same_named c.spot x.shape x.is.now));
+            spells = λ s is. u.is_child s is ∙ (c.named ∙ sym (same_named c.spot x.shape x.is.now));
             low_is = (by c.spot x.shape x.is).0;
             covers = (by c.spot x.shape x.is).1;
           }

@@ -1,227 +1,124 @@
-use Rattle.std.proofs.Common.{rules, arith, refl, sym, ap, subst, get_or, ℕ, List, Option, ◌/◌, ◌≡◌, ◌∙◌}
-use Rattle.word_book.specs.Book.{reads, none_joined}
-use Rattle.spec_node.specs.declared.child.Child.TheVariants.{Node}
-use Rattle.live_layout.specs.Encodes.{IsWord}
+use Rattle.std.proofs.Common.{rules, arith, refl, sym, ap, subst, get_or, ℕ, List, Option, Some, ◌/◌, ◌≡◌, ◌∙◌}
+use Rattle.word_book.specs.Book.{Name, reads, none_joined}
 use Rattle.live_nodes.specs.Plays.{Checks}
 use Rattle.live_nodes.specs.Calls.{MayCheck}
+use Rattle.live_nodes.specs.Seats.{IsIn}
 use Rattle.live_law.specs.Levels.{place_at}
-use Rattle.live_law.specs.Views.{View}
 use Rattle.live_law.specs.Tree.{IsMap, LearnsBelow}
 use Rattle.live_layout.specs.Head.{IsHead}
-use Rattle.live_reads.specs.Paths.{Sights}
+use Rattle.live_reads.specs.Paths.{HasOpened, Keeps, Sights}
 use Rattle.live_reads.specs.Sees.{Sees}
 use Rattle.live_reads.specs.Mismatches.{first_number}
 use Rattle.live_reads.specs.declared.prefix_match.PrefixMatch.TheVariants as prefix_matches
-use Rattle.live_reads.proofs.Finds.{keeps_then}
 use Rattle.live_reads.proofs.Views.{first_word, may_read_open, open_long}
-use Rattle.live_scans.proofs.Nexts.{may_watch_next, next_missed, next_keeps, next_is}
+use Rattle.live_scans.proofs.Nexts.{ChildRead, may_watch_next, next_missed, next_keeps, next_is}
+use Rattle.live_scans.proofs.next.watch_next.Given.{Over}
 use Rattle.live_scans.proofs.next.watch_next.Goals as goal
+use Rattle.live_scans.proofs.next.watch_next.Goals.{After-slot_below-below, In_ok-there, After-index-there-0, After-check}
+
+-- THE CHILD by its word
+module _ (g : Over) (c : After-slot_below-below g) where
+  abbrev n : Sights c.args.seat.now.view c.slot_below-below.result
+  n = subst (λ z. Sights c.args.seat.now.view z) (sym (c.slot_below-below.ensures c.requires.met.0 c.requires.met.1)) c.requires.met.2
+
+-- it is open
+module _ (g : Over) (c : In_ok-there g) where
+  abbrev below : Sights c.args.seat.now.view c.slot_below-below.result
+  below = n g (goal.at.In_ok-there g c).After-slot_below-below
+
+  opened : HasOpened c.open.new.seat.view c.open.new.seat.book c.in_ok-there.there.words.now c.in_ok-there.there.taken below.spot
+  opened = c.in_ok-there.ensures.opened.1 below
+
+  placed : IsIn (place_at below.spot) c.open.new.seat.view.places
+  placed = c.open.ensures.told.2.places (place_at below.spot) below.placed
+
+-- its head was read
+module _ (g : Over) (c : After-index-there-0 g) where
+  abbrev k : ℕ
+  k = (get_or c.in_ok-there.there.words.now 0 c.index-there-0.result).key
+
+  abbrev child : ChildRead c.args.seat.now.view c.args.seat.now.book c.args.here.words.now c.args.here.taken c.args.name c.args.key c.args.height c.args.byte c.args.word c.slot_below-below.result c.open.new.seat.view c.open.new.seat.book c.in_ok-there.there.words.now c.in_ok-there.there.taken c.word-head.new.seat.view k
+  child =
+      let o = (goal.at.After-index-there-0 g c).In_ok-there in
+      let told = c.open.ensures.told in record {
+        near = c.requires.near;
+        high = c.requires.height.0;
+        low_byte = c.ranges.byte.fits;
+        child = below g o;
+        is_child = λ s e. sym (c.slot_below-below.ensures s e);
+        apart = c.if-below-name.false;
+        keeps = told.2;
+        client = told.3;
+        opened = opened g o;
+        reads = c.in_ok-there.ensures.taken (below g o);
+        rest = ap (λ s. s.view) c.word-head.ensures.seat.others;
+        first = (first_word (place_at (below g o).spot) c.open.new.seat.book c.in_ok-there.there.words.now (opened g o).are (get_or c.in_ok-there.there.words.now 0 c.index-there-0.result) c.index-there-0.result refl).0;
+      }
+
+  at_above : (g.N.Above.number ≡ c.requires.near.here.names.spot.number) × (g.N.Above.word ≡ Some c.args.here.taken)
+  at_above = (c.requires.above.0 ∙ ap first_number c.requires.near.here.opened.reads, c.requires.above.1)
+
+-- and its word is compared
+module _ (g : Over) (c : After-check g) where
+  abbrev read_it : After-index-there-0 g
+  read_it = (goal.at.After-check g c).After-index-there-0
+
+  told : Checks (LearnsBelow c.requires.near.here.names.spot.number (Some c.args.here.taken)) (reads (k g read_it)) c.word-head.new.seat.view c.check.ensures.told.0 none_joined c.check.new.seat.view
+  told = subst (λ (z : ℕ × Option ℕ). Checks (LearnsBelow z.0 z.1) (reads (k g read_it)) c.word-head.new.seat.view c.check.ensures.told.0 none_joined c.check.new.seat.view) (λ i. ((at_above g read_it).0 i, (at_above g read_it).1 i)) c.check.ensures.told.2
+
+  book_since : c.check.new.seat.book ≡ c.open.new.seat.book
+  book_since = c.check.ensures.seat.0 ∙ ap (λ s. s.book) c.word-head.ensures.seat.others
+
+  book : c.check.new.seat.book ≡ c.args.seat.now.book
+  book = book_since ∙ c.open.ensures.told.0
+
+  id : c.check.new.seat.id ≡ c.args.seat.now.id
+  id = c.check.ensures.seat.1 ∙ (ap (λ s. s.id) c.word-head.ensures.seat.others ∙ c.open.ensures.told.1)
+
+  abbrev Kept : Type 0
+  Kept = (c.check.new.seat.book ≡ c.args.seat.now.book) × (c.check.new.seat.id ≡ c.args.seat.now.id) × Keeps c.args.seat.now.view c.check.new.seat.view × (c.check.new.seat.view.client.seen ≡ c.args.seat.now.view.client.seen)
+
+  kept : c.check.ensures.told.0 ≡ c.in_ok-there.there.taken → Kept
+  kept hit = let k = next_keeps (child g read_it) c.check.new.seat.view c.check.ensures.told.0 told hit in (book, id, k.0, k.1)
 
 pub open-requires-clause-sighted : goal.open-requires-clause-sighted
-open-requires-clause-sighted g c =
-    let m = c.requires.met in
-    subst (λ z. Sights c.args.seat.now.view z) (sym (c.slot_below-below.ensures m.0 m.1)) m.2
+open-requires-clause-sighted g c = n g (goal.at.open-requires-clause-sighted g c).After-slot_below-below
 
 pub word-head-requires-clause-may : goal.word-head-requires-clause-may
 word-head-requires-clause-may g c =
-    let v = c.args.seat.now.view in
-    let m = c.requires.met in
-    let below = c.slot_below-below.result in
-    let n = subst (λ z. Sights v z) (sym (c.slot_below-below.ensures m.0 m.1)) m.2 in
-    let v₂ = c.open.new.seat.view in
-    let told₂ = c.open.ensures.told in
-    let o₂ = c.in_ok-there.ensures.opened.1 n in
-    may_read_open v₂ c.open.new.seat.book c.in_ok-there.there.words.now c.in_ok-there.there.taken n.spot (told₂.2.places (place_at n.spot) n.placed) o₂
+    let o = (goal.at.word-head-requires-clause-may g c).In_ok-there in
+    may_read_open c.open.new.seat.view c.open.new.seat.book c.in_ok-there.there.words.now c.in_ok-there.there.taken (below g o).spot (placed g o) (opened g o)
 
 pub word-head-requires-clause-inside : goal.word-head-requires-clause-inside
 word-head-requires-clause-inside g c =
-    let v = c.args.seat.now.view in
-    let m = c.requires.met in
-    let n = subst (λ z. Sights v z) (sym (c.slot_below-below.ensures m.0 m.1)) m.2 in
-    let v₂ = c.open.new.seat.view in
-    let told₂ = c.open.ensures.told in
-    let o₂ = c.in_ok-there.ensures.opened.1 n in
-    open_long v₂ c.open.new.seat.book c.in_ok-there.there.words.now c.in_ok-there.there.taken n.spot (told₂.2.places (place_at n.spot) n.placed) o₂
+    let o = (goal.at.word-head-requires-clause-inside g c).In_ok-there in
+    open_long c.open.new.seat.view c.open.new.seat.book c.in_ok-there.there.words.now c.in_ok-there.there.taken (below g o).spot (placed g o) (opened g o)
 
 pub check-requires-clause-learns : goal.check-requires-clause-learns
 check-requires-clause-learns g c =
-    let v = c.args.seat.now.view in
-    let b = c.args.seat.now.book in
-    let words = c.args.here.words.now in
-    let t = c.args.here.taken in
-    let near = c.requires.near in
-    let m = c.requires.met in
-    let below = c.slot_below-below.result in
-    let n = subst (λ z. Sights v z) (sym (c.slot_below-below.ensures m.0 m.1)) m.2 in
-    let is_child = λ (s : ℕ) (e : IsWord c.args.word (Node s)). sym (c.slot_below-below.ensures s e) in
-    let v₂ = c.open.new.seat.view in
-    let told₂ = c.open.ensures.told in
-    let b₂ = c.open.new.seat.book in
-    let words₂ = c.in_ok-there.there.words.now in
-    let t₂ = c.in_ok-there.there.taken in
-    let even₂ = c.in_ok-there.ensures.opened.0 in
-    let o₂ = c.in_ok-there.ensures.opened.1 n in
-    let reads₂ = c.in_ok-there.ensures.taken n in
-    let v₃ = c.word-head.new.seat.view in
-    let r₃ = c.word-head.ensures.seat.others in
-    let rest₃ = ap (λ s. s.view) r₃ in
-    let first = get_or words₂ 0 c.index-there-0.result in
-    let at_k = (first_word (place_at n.spot) b₂ words₂ o₂.are first c.index-there-0.result refl).0 in
-    let at_number = c.requires.above.0 ∙ ap first_number near.here.opened.reads in
-    let at_word = c.requires.above.1 in
-    let may = may_watch_next v b words t c.args.name c.args.key c.args.height c.args.byte c.args.word near c.requires.height.0 c.ranges.byte.fits below n is_child c.if-below-name.false v₂ b₂ words₂ t₂ told₂.2 o₂ reads₂ v₃ rest₃ first.key at_k c.word-head.new.seat.id (t₂ / 4) (t / 4) (omega (arith, even₂)) (let f = near.here.free in omega (arith, f)) in
-    subst (λ (z : ℕ × Option ℕ). MayCheck v₃ first.key IsMap c.word-head.new.seat.id (LearnsBelow z.0 z.1) t₂) (λ i. (sym at_number i, sym at_word i)) may
+    let i = (goal.at.check-requires-clause-learns g c).After-index-there-0 in
+    let even = c.in_ok-there.ensures.opened.0 in
+    let free = c.requires.near.here.free in
+    let id = c.word-head.new.seat.id in
+    let may = may_watch_next (child g i) id (c.in_ok-there.there.taken / 4) (c.args.here.taken / 4) (omega (arith, even)) (omega (arith, free)) in
+    subst (λ (z : ℕ × Option ℕ). MayCheck c.word-head.new.seat.view (k g i) IsMap id (LearnsBelow z.0 z.1) c.in_ok-there.there.taken) (λ j. (sym (at_above g i).0 j, sym (at_above g i).1 j)) may
 
 pub returns-then-not-check-clause-told : goal.returns-then-not-check-clause-told
 returns-then-not-check-clause-told g c =
-    let v = c.args.seat.now.view in
-    let b = c.args.seat.now.book in
-    let words = c.args.here.words.now in
-    let t = c.args.here.taken in
-    let near = c.requires.near in
-    let m = c.requires.met in
-    let below = c.slot_below-below.result in
-    let n = subst (λ z. Sights v z) (sym (c.slot_below-below.ensures m.0 m.1)) m.2 in
-    let is_child = λ (s : ℕ) (e : IsWord c.args.word (Node s)). sym (c.slot_below-below.ensures s e) in
-    let v₂ = c.open.new.seat.view in
-    let told₂ = c.open.ensures.told in
-    let b₂ = c.open.new.seat.book in
-    let words₂ = c.in_ok-there.there.words.now in
-    let t₂ = c.in_ok-there.there.taken in
-    let even₂ = c.in_ok-there.ensures.opened.0 in
-    let o₂ = c.in_ok-there.ensures.opened.1 n in
-    let reads₂ = c.in_ok-there.ensures.taken n in
-    let v₃ = c.word-head.new.seat.view in
-    let r₃ = c.word-head.ensures.seat.others in
-    let rest₃ = ap (λ s. s.view) r₃ in
-    let first = get_or words₂ 0 c.index-there-0.result in
-    let at_k = (first_word (place_at n.spot) b₂ words₂ o₂.are first c.index-there-0.result refl).0 in
-    let at_number = c.requires.above.0 ∙ ap first_number near.here.opened.reads in
-    let at_word = c.requires.above.1 in
-    let tells = c.check.ensures.told in
-    let seat = c.check.ensures.seat in
-    let w = c.check.new.seat.view in
-    let book₂ = seat.0 ∙ ap (λ s. s.book) r₃ in
-    let book = book₂ ∙ told₂.0 in
-    let id = seat.1 ∙ (ap (λ s. s.id) r₃ ∙ told₂.1) in
-    let told = subst (λ (z : ℕ × Option ℕ). Checks (LearnsBelow z.0 z.1) (reads first.key) v₃ tells.0 none_joined w) (λ i. (at_number i, at_word i)) tells.2 in
-    let high = c.requires.height.0 in
-    let apart = c.if-below-name.false in
-    let missed = next_missed v b words t c.args.name c.args.key c.args.height c.args.byte c.args.word near high c.ranges.byte.fits below n is_child apart v₂ b₂ words₂ t₂ told₂.2 o₂ reads₂ v₃ rest₃ first.key at_k w tells.0 told (search rules) in
-    (book, id, keeps_then v v₂ w told₂.2 missed.0, ap (λ (z : View). z.seen) (missed.1 ∙ told₂.3))
+    let z = (goal.at.returns-then-not-check-clause-told g c).After-check in
+    let missed = next_missed (child g (read_it g z)) c.check.new.seat.view c.check.ensures.told.0 (told g z) (search rules) in
+    (book g z, id g z, missed.0, missed.1)
 
 pub returns-in-Covers-clause-told : goal.returns-in-Covers-clause-told
-returns-in-Covers-clause-told g c =
-    let v = c.args.seat.now.view in
-    let b = c.args.seat.now.book in
-    let words = c.args.here.words.now in
-    let t = c.args.here.taken in
-    let near = c.requires.near in
-    let m = c.requires.met in
-    let below = c.slot_below-below.result in
-    let n = subst (λ z. Sights v z) (sym (c.slot_below-below.ensures m.0 m.1)) m.2 in
-    let is_child = λ (s : ℕ) (e : IsWord c.args.word (Node s)). sym (c.slot_below-below.ensures s e) in
-    let v₂ = c.open.new.seat.view in
-    let told₂ = c.open.ensures.told in
-    let b₂ = c.open.new.seat.book in
-    let words₂ = c.in_ok-there.there.words.now in
-    let t₂ = c.in_ok-there.there.taken in
-    let even₂ = c.in_ok-there.ensures.opened.0 in
-    let o₂ = c.in_ok-there.ensures.opened.1 n in
-    let reads₂ = c.in_ok-there.ensures.taken n in
-    let v₃ = c.word-head.new.seat.view in
-    let r₃ = c.word-head.ensures.seat.others in
-    let rest₃ = ap (λ s. s.view) r₃ in
-    let first = get_or words₂ 0 c.index-there-0.result in
-    let at_k = (first_word (place_at n.spot) b₂ words₂ o₂.are first c.index-there-0.result refl).0 in
-    let at_number = c.requires.above.0 ∙ ap first_number near.here.opened.reads in
-    let at_word = c.requires.above.1 in
-    let tells = c.check.ensures.told in
-    let seat = c.check.ensures.seat in
-    let w = c.check.new.seat.view in
-    let book₂ = seat.0 ∙ ap (λ s. s.book) r₃ in
-    let book = book₂ ∙ told₂.0 in
-    let id = seat.1 ∙ (ap (λ s. s.id) r₃ ∙ told₂.1) in
-    let told = subst (λ (z : ℕ × Option ℕ). Checks (LearnsBelow z.0 z.1) (reads first.key) v₃ tells.0 none_joined w) (λ i. (at_number i, at_word i)) tells.2 in
-    let high = c.requires.height.0 in
-    let apart = c.if-below-name.false in
-    let kept = next_keeps v b words t c.args.name c.args.key c.args.height c.args.byte c.args.word near high c.ranges.byte.fits below n is_child apart v₂ b₂ words₂ t₂ told₂.2 o₂ reads₂ v₃ rest₃ first.key at_k w tells.0 told (search rules) in
-    (book, id, keeps_then v v₂ w told₂.2 kept.0, kept.1 ∙ ap (λ (z : View). z.seen) told₂.3)
+returns-in-Covers-clause-told g c = kept g (goal.at.returns-in-Covers-clause-told g c).After-check (search rules)
 
 pub returns-in-Leaves-clause-told : goal.returns-in-Leaves-clause-told
-returns-in-Leaves-clause-told g c =
-    let v = c.args.seat.now.view in
-    let b = c.args.seat.now.book in
-    let words = c.args.here.words.now in
-    let t = c.args.here.taken in
-    let near = c.requires.near in
-    let m = c.requires.met in
-    let below = c.slot_below-below.result in
-    let n = subst (λ z. Sights v z) (sym (c.slot_below-below.ensures m.0 m.1)) m.2 in
-    let is_child = λ (s : ℕ) (e : IsWord c.args.word (Node s)). sym (c.slot_below-below.ensures s e) in
-    let v₂ = c.open.new.seat.view in
-    let told₂ = c.open.ensures.told in
-    let b₂ = c.open.new.seat.book in
-    let words₂ = c.in_ok-there.there.words.now in
-    let t₂ = c.in_ok-there.there.taken in
-    let even₂ = c.in_ok-there.ensures.opened.0 in
-    let o₂ = c.in_ok-there.ensures.opened.1 n in
-    let reads₂ = c.in_ok-there.ensures.taken n in
-    let v₃ = c.word-head.new.seat.view in
-    let r₃ = c.word-head.ensures.seat.others in
-    let rest₃ = ap (λ s. s.view) r₃ in
-    let first = get_or words₂ 0 c.index-there-0.result in
-    let at_k = (first_word (place_at n.spot) b₂ words₂ o₂.are first c.index-there-0.result refl).0 in
-    let at_number = c.requires.above.0 ∙ ap first_number near.here.opened.reads in
-    let at_word = c.requires.above.1 in
-    let tells = c.check.ensures.told in
-    let seat = c.check.ensures.seat in
-    let w = c.check.new.seat.view in
-    let book₂ = seat.0 ∙ ap (λ s. s.book) r₃ in
-    let book = book₂ ∙ told₂.0 in
-    let id = seat.1 ∙ (ap (λ s. s.id) r₃ ∙ told₂.1) in
-    let told = subst (λ (z : ℕ × Option ℕ). Checks (LearnsBelow z.0 z.1) (reads first.key) v₃ tells.0 none_joined w) (λ i. (at_number i, at_word i)) tells.2 in
-    let high = c.requires.height.0 in
-    let apart = c.if-below-name.false in
-    let kept = next_keeps v b words t c.args.name c.args.key c.args.height c.args.byte c.args.word near high c.ranges.byte.fits below n is_child apart v₂ b₂ words₂ t₂ told₂.2 o₂ reads₂ v₃ rest₃ first.key at_k w tells.0 told (search rules) in
-    (book, id, keeps_then v v₂ w told₂.2 kept.0, kept.1 ∙ ap (λ (z : View). z.seen) told₂.3)
+returns-in-Leaves-clause-told g c = kept g (goal.at.returns-in-Leaves-clause-told g c).After-check (search rules)
 
 pub returns-in-Covers-clause-next : goal.returns-in-Covers-clause-next
 returns-in-Covers-clause-next g c =
-    let v = c.args.seat.now.view in
-    let b = c.args.seat.now.book in
-    let words = c.args.here.words.now in
-    let t = c.args.here.taken in
-    let near = c.requires.near in
-    let m = c.requires.met in
-    let below = c.slot_below-below.result in
-    let n = subst (λ z. Sights v z) (sym (c.slot_below-below.ensures m.0 m.1)) m.2 in
-    let is_child = λ (s : ℕ) (e : IsWord c.args.word (Node s)). sym (c.slot_below-below.ensures s e) in
-    let v₂ = c.open.new.seat.view in
-    let told₂ = c.open.ensures.told in
-    let b₂ = c.open.new.seat.book in
-    let words₂ = c.in_ok-there.there.words.now in
-    let t₂ = c.in_ok-there.there.taken in
-    let even₂ = c.in_ok-there.ensures.opened.0 in
-    let o₂ = c.in_ok-there.ensures.opened.1 n in
-    let reads₂ = c.in_ok-there.ensures.taken n in
-    let v₃ = c.word-head.new.seat.view in
-    let r₃ = c.word-head.ensures.seat.others in
-    let rest₃ = ap (λ s. s.view) r₃ in
-    let first = get_or words₂ 0 c.index-there-0.result in
-    let at_k = (first_word (place_at n.spot) b₂ words₂ o₂.are first c.index-there-0.result refl).0 in
-    let at_number = c.requires.above.0 ∙ ap first_number near.here.opened.reads in
-    let at_word = c.requires.above.1 in
-    let tells = c.check.ensures.told in
-    let seat = c.check.ensures.seat in
-    let w = c.check.new.seat.view in
-    let book₂ = seat.0 ∙ ap (λ s. s.book) r₃ in
-    let book = book₂ ∙ told₂.0 in
-    let id = seat.1 ∙ (ap (λ s. s.id) r₃ ∙ told₂.1) in
-    let told = subst (λ (z : ℕ × Option ℕ). Checks (LearnsBelow z.0 z.1) (reads first.key) v₃ tells.0 none_joined w) (λ i. (at_number i, at_word i)) tells.2 in
-    let high = c.requires.height.0 in
-    let apart = c.if-below-name.false in
+    let z = (goal.at.returns-in-Covers-clause-next g c).After-check in
     let prefix_match : c.compare.result ≡ prefix_matches.Covers c.in-Covers.height = c.in-Covers.is in
     let sees = λ (form : ℕ) (p : List ℕ) (h : IsHead c.word-head.result form p). subst (Sees p c.floor_of-first.result) prefix_match (c.compare.ensures form p h) in
-    let is = next_is v b words t c.args.name c.args.key c.args.height c.args.byte c.args.word near high c.ranges.byte.fits below n is_child apart v₂ b₂ words₂ t₂ told₂.2 o₂ reads₂ v₃ rest₃ first.key at_k w tells.0 told (search rules) c.check.new.seat.book book book₂ even₂ c.word-head.result c.floor_of-first.result (search rules) (λ content agrees. (c.word-head.ensures.read content agrees).0) c.in-Covers.height sees in
-    is
+    next_is (child g (read_it g z)) c.check.new.seat.view c.check.ensures.told.0 (told g z) (search rules) c.check.new.seat.book (book g z) (book_since g z) c.in_ok-there.ensures.opened.0 c.word-head.result c.floor_of-first.result (search rules)
+    (λ content agrees. (c.word-head.ensures.read content agrees).0) c.in-Covers.height sees
