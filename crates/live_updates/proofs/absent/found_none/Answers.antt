@@ -1,18 +1,28 @@
 use Rattle.std.proofs.Common.{rules, sym, refl, Some, None, ◌≡◌, ◌∙◌}
 use Rattle.live_law.specs.Views.{ask, got}
 use Rattle.live_reads.proofs.Finds.{answers_by}
+use Rattle.live_growth.specs.Calls.{IsReady}
 use Rattle.live_growth.proofs.Ready.{ready_kept, made_call}
 use Rattle.live_updates.specs.declared.lookup.Site.TheVariants as sites
-use Rattle.live_updates.specs.inner.Lookups.{lookup_of, absence}
+use Rattle.live_updates.specs.inner.Lookups.{Lookup, lookup_of, absence}
 use Rattle.live_updates.proofs.Ended.{absence_lookup}
 use Rattle.live_updates.proofs.Made.{no_more, at_none}
 use Rattle.live_updates.proofs.absent.found_none.Goals as goal
+use Rattle.live_updates.proofs.absent.found_none.Goals.{After-seek}
+
+-- the key was looked for
+module _ (c : After-seek) where
+  abbrev looked : Lookup
+  looked = lookup_of c.loop.guard-inside.seat.id c.args.key (absence c.loop.guard-inside.seat.id c.args.key)
+
+  ready : IsReady c.seek.new.seat.view c.loop.guard-inside.room
+  ready = ready_kept c.loop.guard-inside.seat.view c.seek.new.seat.view c.loop.guard-inside.room c.loop.invariant.ready c.seek.ensures.told.2
 
 pub seek-requires-clause-legal : goal.seek-requires-clause-legal
 seek-requires-clause-legal c = absence_lookup c.loop.guard-inside.seat.id c.args.key
 
 pub invariant_of-guard-in-Some-Absent : goal.invariant_of-guard-in-Some-Absent
-invariant_of-guard-in-Some-Absent c = ready_kept c.loop.guard-inside.seat.view c.seek.new.seat.view c.loop.guard-inside.room c.loop.invariant.ready c.seek.ensures.told.2
+invariant_of-guard-in-Some-Absent c = ready (goal.at.invariant_of-guard-in-Some-Absent c).After-seek
 
 pub returns-in-Some-Absent-clause-absent : goal.returns-in-Some-Absent-clause-absent
 returns-in-Some-Absent-clause-absent c = λ _.
@@ -20,26 +30,16 @@ returns-in-Some-Absent-clause-absent c = λ _.
     let v = c.loop.guard-inside.seat.view in
     let w = c.seek.new.seat.view in
     let t = c.seek.ensures.told in
-    let id = c.loop.guard-inside.seat.id in
     let key = c.args.key in
     let absent : c.seek.result ≡ Some sites.Absent = search rules in
-    let answers = at_none (lookup_of id key (absence id key)) c.seek.result v w absent t.3 in
-    made_call c.args.guard.now c.seek.new.seat.book c.seek.new.seat.id v.client.seen w (λ x. got (ask x key 0 0) None) (λ x. refl) (t.0 ∙ i.book) (t.1 ∙ i.id) i.seen (answers_by id c.seek.new.seat.id key None v w (sym t.1) answers)
+    let answers = at_none (looked (goal.at.returns-in-Some-Absent-clause-absent c).After-seek) c.seek.result v w absent t.3 in
+    made_call c.args.guard.now c.seek.new.seat.book c.seek.new.seat.id v.client.seen w (λ x. got (ask x key 0 0) None) (λ x. refl) (t.0 ∙ i.book) (t.1 ∙ i.id) i.seen (answers_by c.loop.guard-inside.seat.id c.seek.new.seat.id key None v w (sym t.1) answers)
 
 pub invariant_of-guard-in-Some-At : goal.invariant_of-guard-in-Some-At
-invariant_of-guard-in-Some-At c = ready_kept c.loop.guard-inside.seat.view c.seek.new.seat.view c.loop.guard-inside.room c.loop.invariant.ready c.seek.ensures.told.2
+invariant_of-guard-in-Some-At c = ready (goal.at.invariant_of-guard-in-Some-At c).After-seek
 
 pub loop-preserved : goal.loop-preserved
 loop-preserved c =
-    let i = c.loop.invariant in
-    let v = c.loop.guard-inside.seat.view in
-    let w = c.seek.new.seat.view in
-    let t = c.seek.ensures.told in
-    let id = c.loop.guard-inside.seat.id in
-    let none : c.seek.result ≡ None = search rules in
-    record {
-      book = t.0 ∙ i.book;
-      id = t.1 ∙ i.id;
-      seen = no_more (lookup_of id c.args.key (absence id c.args.key)) c.seek.result v w none t.3 ∙ i.seen;
-      ready = ready_kept v w c.loop.guard-inside.room i.ready t.2;
-    }
+    let a = (goal.at.loop-preserved c).After-seek in
+    let i = c.loop.invariant in let t = c.seek.ensures.told in
+    record { book = t.0 ∙ i.book; id = t.1 ∙ i.id; seen = no_more (looked a) c.seek.result c.loop.guard-inside.seat.view c.seek.new.seat.view (search rules) t.3 ∙ i.seen; ready = ready a }

@@ -1,86 +1,87 @@
-use Rattle.std.proofs.Common.{rules, sym, subst, Ok, Some, None, IsSome, ◌≡◌, ◌≢◌, ◌∙◌}
+use Rattle.std.proofs.Common.{rules, sym, subst, Ok, Some, None, ◌≡◌, ◌≢◌, ◌∙◌}
 use Rattle.std.specs.Option.{option_map}
+use Rattle.live_law.specs.Tree.{Answers}
+use Rattle.live_growth.specs.Calls.{IsReady}
 use Rattle.live_growth.proofs.Ready.{ready_kept}
 use Rattle.live_updates.specs.Entries.{swapped}
 use Rattle.live_updates.specs.declared.lookup.Site.TheVariants as sites
-use Rattle.live_updates.specs.inner.Lookups.{lookup_of, exchange_fails, EndsBy}
-use Rattle.live_updates.specs.inner.Updates.{update_of}
+use Rattle.live_updates.specs.inner.Lookups.{Lookup, lookup_of, Swap, exchange_fails, EndsBy}
+use Rattle.live_updates.specs.inner.Updates.{Update, update_of}
 use Rattle.live_updates.proofs.Ended.{exchange_lookup, exchange_update}
 use Rattle.live_updates.proofs.Made.{no_more, at_none, at_some, missed_same, updated_by, fails_absent, fails_other, goes_on, swaps}
+use Rattle.live_updates.proofs.calls.exchange_once.Given.{Over}
 use Rattle.live_updates.proofs.calls.exchange_once.Goals as goal
+use Rattle.live_updates.proofs.calls.exchange_once.Goals.{After-seek, In-At, After-exchange_here}
+
+abbrev x : Over → Swap
+x g = g.X.Swaps.swap
+
+abbrev looked : Over → Lookup
+looked g = lookup_of (x g).caller (x g).key (exchange_fails (x g))
+
+abbrev update : Over → Update
+update g = update_of (x g).caller (x g).key (Some (x g).old) (x g).new (swapped (x g).caller (x g).key (x g).old (x g).new (Ok (x g).new))
+
+-- THE KEY was looked for
+ready : (g : Over) (c : After-seek g) → IsReady c.seek.new.seat.view c.args.room.now
+ready g c = ready_kept c.args.seat.now.view c.seek.new.seat.view c.args.room.now c.requires.ready c.seek.ensures.told.2
+
+-- found,
+by_value : (g : Over) (c : In-At g) → EndsBy (x g).caller (exchange_fails (x g) (Some c.in-At.value)) c.args.seat.now.view c.seek.new.seat.view
+by_value g c =
+    let found : c.seek.result ≡ Some (sites.At c.in-At.leaf c.in-At.value) = search rules in
+    at_some (looked g) c.seek.result c.in-At.leaf c.in-At.value c.args.seat.now.view c.seek.new.seat.view found c.seek.ensures.told.3
+
+-- and has the expected value
+same : (g : Over) (c : After-exchange_here g) → c.seek.new.seat.view.client.seen ≡ c.args.seat.now.view.client.seen
+same g c =
+    let expected : c.in-At.value ≡ c.args.old = search rules in
+    goes_on (x g) c.args.seat.now.id c.args.key c.args.old c.args.new c.requires.swap c.args.seat.now.view c.seek.new.seat.view c.in-At.value expected (by_value g (goal.at.After-exchange_here g c).In-At)
 
 pub seek-requires-clause-legal : goal.seek-requires-clause-legal
-seek-requires-clause-legal g c = exchange_lookup g.X.Swaps.swap
+seek-requires-clause-legal g c = exchange_lookup (x g)
 
 pub returns-in_err-seek-clause-told : goal.returns-in_err-seek-clause-told
 returns-in_err-seek-clause-told g c =
-    let v = c.args.seat.now.view in
-    let w = c.seek.new.seat.view in
     let t = c.seek.ensures.told in
-    let x = g.X.Swaps.swap in
-    let id = c.args.seat.now.id in
-    let key = c.args.key in
-    let none : c.seek.result ≡ None = search rules in
     let out : c.from_residual.result ≡ None = search rules in
-    let same = no_more (lookup_of x.caller x.key (exchange_fails x)) c.seek.result v w none t.3 in
-    (t.0, t.1, ready_kept v w c.args.room.now c.requires.ready t.2, subst (λ z. EndsBy id (option_map (swapped id key c.args.old c.args.new) z) v w) (sym out) same)
+    let no_value = no_more (looked g) c.seek.result c.args.seat.now.view c.seek.new.seat.view (search rules) t.3 in
+    (t.0, t.1, ready g (goal.at.returns-in_err-seek-clause-told g c).After-seek, subst (λ z. EndsBy c.args.seat.now.id (option_map (swapped c.args.seat.now.id c.args.key c.args.old c.args.new) z) c.args.seat.now.view c.seek.new.seat.view) (sym out) no_value)
 
 pub returns-in-Absent-clause-told : goal.returns-in-Absent-clause-told
 returns-in-Absent-clause-told g c =
+    let t = c.seek.ensures.told in
     let v = c.args.seat.now.view in
     let w = c.seek.new.seat.view in
-    let t = c.seek.ensures.told in
-    let x = g.X.Swaps.swap in
-    let absent : c.seek.result ≡ Some sites.Absent = search rules in
-    let failed = at_none (lookup_of x.caller x.key (exchange_fails x)) c.seek.result v w absent t.3 in
-    (t.0, t.1, ready_kept v w c.args.room.now c.requires.ready t.2, fails_absent x c.args.seat.now.id c.args.key c.args.old c.args.new c.requires.swap v w failed)
+    let failed = at_none (looked g) c.seek.result v w (search rules) t.3 in
+    (t.0, t.1, ready g (goal.at.returns-in-Absent-clause-told g c).After-seek, fails_absent (x g) c.args.seat.now.id c.args.key c.args.old c.args.new c.requires.swap v w failed)
 
 pub returns-then-value-old-clause-told : goal.returns-then-value-old-clause-told
 returns-then-value-old-clause-told g c =
-    let v = c.args.seat.now.view in
-    let w = c.seek.new.seat.view in
+    let a = goal.at.returns-then-value-old-clause-told g c in
     let t = c.seek.ensures.told in
-    let x = g.X.Swaps.swap in
-    let value = c.in-At.value in
-    let found : c.seek.result ≡ Some (sites.At c.in-At.leaf value) = search rules in
-    let other : value ≢ c.args.old = search rules in
-    let failed = at_some (lookup_of x.caller x.key (exchange_fails x)) c.seek.result c.in-At.leaf value v w found t.3 in
-    (t.0, t.1, ready_kept v w c.args.room.now c.requires.ready t.2, fails_other x c.args.seat.now.id c.args.key c.args.old c.args.new c.requires.swap v w value other failed)
+    let other : c.in-At.value ≢ c.args.old = search rules in
+    (t.0, t.1, ready g a.After-seek, fails_other (x g) c.args.seat.now.id c.args.key c.args.old c.args.new c.requires.swap c.args.seat.now.view c.seek.new.seat.view c.in-At.value other (by_value g a.In-At))
 
 pub exchange_here-requires-clause-ready : goal.exchange_here-requires-clause-ready
-exchange_here-requires-clause-ready g c = ready_kept c.args.seat.now.view c.seek.new.seat.view c.args.room.now c.requires.ready c.seek.ensures.told.2
+exchange_here-requires-clause-ready g c = ready g (goal.at.exchange_here-requires-clause-ready g c).After-seek
 
 pub exchange_here-requires-clause-legal : goal.exchange_here-requires-clause-legal
-exchange_here-requires-clause-legal g c = let x = g.X.Swaps.swap in exchange_update x.caller x.key x.old x.new
+exchange_here-requires-clause-legal g c = exchange_update (x g).caller (x g).key (x g).old (x g).new
 
 pub returns-then-is_some-clause-told : goal.returns-then-is_some-clause-told
 returns-then-is_some-clause-told g c =
-    let v = c.args.seat.now.view in
-    let w = c.seek.new.seat.view in
     let t = c.seek.ensures.told in
-    let x = g.X.Swaps.swap in
-    let value = c.in-At.value in
-    let u = c.exchange_here.new.seat.view in
     let e = c.exchange_here.ensures.told in
-    let found : c.seek.result ≡ Some (sites.At c.in-At.leaf value) = search rules in
-    let expected : value ≡ c.args.old = search rules in
-    let same = goes_on x c.args.seat.now.id c.args.key c.args.old c.args.new c.requires.swap v w value expected (at_some (lookup_of x.caller x.key (exchange_fails x)) c.seek.result c.in-At.leaf value v w found t.3) in
-    let some_missed : IsSome c.exchange_here.result = search rules in
-    let missed = missed_same (update_of x.caller x.key (Some x.old) x.new (swapped x.caller x.key x.old x.new (Ok x.new))) c.exchange_here.result w u some_missed e.3 in
-    (e.0 ∙ t.0, e.1 ∙ t.1, e.2, missed ∙ same)
+    let missed = missed_same (update g) c.exchange_here.result c.seek.new.seat.view c.exchange_here.new.seat.view (search rules) e.3 in
+    (e.0 ∙ t.0, e.1 ∙ t.1, e.2, missed ∙ same g (goal.at.returns-then-is_some-clause-told g c).After-exchange_here)
 
 pub returns-else-is_some-clause-told : goal.returns-else-is_some-clause-told
 returns-else-is_some-clause-told g c =
-    let v = c.args.seat.now.view in
-    let w = c.seek.new.seat.view in
     let t = c.seek.ensures.told in
-    let x = g.X.Swaps.swap in
-    let value = c.in-At.value in
+    let w = c.seek.new.seat.view in
     let u = c.exchange_here.new.seat.view in
     let e = c.exchange_here.ensures.told in
-    let found : c.seek.result ≡ Some (sites.At c.in-At.leaf value) = search rules in
-    let expected : value ≡ c.args.old = search rules in
-    let same = goes_on x c.args.seat.now.id c.args.key c.args.old c.args.new c.requires.swap v w value expected (at_some (lookup_of x.caller x.key (exchange_fails x)) c.seek.result c.in-At.leaf value v w found t.3) in
-    let none : c.exchange_here.result ≡ None = search rules in
-    let answers = updated_by (update_of x.caller x.key (Some x.old) x.new (swapped x.caller x.key x.old x.new (Ok x.new))) c.exchange_here.result w u none e.3 in
-    (e.0 ∙ t.0, e.1 ∙ t.1, e.2, swaps x c.args.seat.now.id c.args.key c.args.old c.args.new c.requires.swap w u v.client.seen (subst (λ z. Rattle.live_law.specs.Tree.Answers x.caller (swapped x.caller x.key x.old x.new (Ok x.new)) z u.client.seen) same answers))
+    let answers = updated_by (update g) c.exchange_here.result w u (search rules) e.3 in
+    let before = subst (λ z. Answers (x g).caller (update g).entry z u.client.seen) (same g (goal.at.returns-else-is_some-clause-told g c).After-exchange_here) answers in
+    (e.0 ∙ t.0, e.1 ∙ t.1, e.2, swaps (x g) c.args.seat.now.id c.args.key c.args.old c.args.new c.requires.swap w u c.args.seat.now.view.client.seen before)

@@ -1,13 +1,39 @@
-use Rattle.std.proofs.Common.{rules, refl, ℕ, Some, None, IsSome, ◌≡◌, ◌∙◌}
+use Rattle.std.proofs.Common.{rules, refl, ℕ, Some, None, ◌≡◌, ◌∙◌}
+use Rattle.live_growth.specs.Calls.{IsReady}
 use Rattle.live_growth.proofs.Ready.{ready_kept, ready_rest}
 use Rattle.live_updates.specs.declared.lookup.Site.TheVariants as sites
-use Rattle.live_updates.specs.inner.Lookups.{lookup_of}
-use Rattle.live_updates.specs.inner.Updates.{update_of}
+use Rattle.live_updates.specs.inner.Lookups.{Lookup, lookup_of}
+use Rattle.live_updates.specs.inner.Updates.{Update, update_of}
 use Rattle.live_updates.proofs.Made.{no_more, at_some, missed_same, updated_by, answers_from}
 use Rattle.live_updates.specs.ClosureEntries.{inserted_with, sum_with}
 use Rattle.live_updates.specs.inner.Ends.{nowhere}
 use Rattle.live_updates.proofs.Called.{always_lookup, always_update}
 use Rattle.live_updates.proofs.computes.present.add_once.Goals as goal
+use Rattle.live_updates.proofs.computes.present.add_once.Goals.{After-seek, After-update_here}
+
+-- THE KEY was looked for
+module _ (c : After-seek) where
+  abbrev looked : Lookup
+  looked = lookup_of c.args.seat.now.id c.args.key nowhere
+
+  ready : IsReady c.seek.new.seat.view c.args.room.now
+  ready = ready_kept c.args.seat.now.view c.seek.new.seat.view c.args.room.now c.requires.ready c.seek.ensures.told.2
+
+-- and found
+module _ (c : After-update_here) where
+  abbrev new : ℕ
+  new = sum_with (Some c.in-Some-At.value) c.args.number
+
+  abbrev update : Update
+  update = update_of c.seek.new.seat.id c.args.key (Some c.in-Some-At.value) (Some new) (inserted_with c.seek.new.seat.id c.args.key (Some c.in-Some-At.value) new)
+
+  same : c.seek.new.seat.view.client.seen ≡ c.args.seat.now.view.client.seen
+  same =
+      let found : c.seek.result ≡ Some (sites.At c.in-Some-At.leaf c.in-Some-At.value) = search rules in
+      at_some (looked (goal.at.After-update_here c).After-seek) c.seek.result c.in-Some-At.leaf c.in-Some-At.value c.args.seat.now.view c.seek.new.seat.view found c.seek.ensures.told.3
+
+  ready_then : IsReady c.update_here.new.seat.view c.args.room.now
+  ready_then = ready_rest c.seek.new.seat.view c.update_here.new.seat.view c.args.room.now (ready (goal.at.After-update_here c).After-seek) c.update_here.ensures.told.2
 
 pub seek-requires-clause-legal : goal.seek-requires-clause-legal
 seek-requires-clause-legal c = always_lookup c.args.seat.now.id c.args.key
@@ -17,57 +43,31 @@ update_here-requires-clause-legal c = always_update c.seek.new.seat.id c.args.ke
 
 pub returns-then-is_some : goal.returns-then-is_some
 returns-then-is_some c =
-    let v = c.args.seat.now.view in
-    let w = c.seek.new.seat.view in
+    let a = (goal.at.returns-then-is_some c).After-update_here in
     let t = c.seek.ensures.told in
-    let id = c.args.seat.now.id in
-    let key = c.args.key in
-    let room = c.args.room.now in
-    let ready = ready_kept v w room c.requires.ready t.2 in
-    let value = c.in-Some-At.value in
-    let new = sum_with (Some value) c.args.number in
-    let u = c.update_here.new.seat.view in
     let e = c.update_here.ensures.told in
-    let found : c.seek.result ≡ Some (sites.At c.in-Some-At.leaf value) = search rules in
-    let same = at_some (lookup_of id key nowhere) c.seek.result c.in-Some-At.leaf value v w found t.3 in
-    let some_missed : IsSome c.update_here.result = search rules in
-    let later = c.seek.new.seat.id in
-    let missed = missed_same (update_of later key (Some value) (Some new) (inserted_with later key (Some value) new)) c.update_here.result w u some_missed e.3 in
-    record { told = (e.0 ∙ t.0, e.1 ∙ t.1, ready_rest w u room ready e.2, missed ∙ same) }
+    let missed = missed_same (update a) c.update_here.result c.seek.new.seat.view c.update_here.new.seat.view (search rules) e.3 in
+    record { told = (e.0 ∙ t.0, e.1 ∙ t.1, ready_then a, missed ∙ same a) }
 
 pub returns-else-is_some : goal.returns-else-is_some
 returns-else-is_some c =
-    let v = c.args.seat.now.view in
-    let w = c.seek.new.seat.view in
+    let a = (goal.at.returns-else-is_some c).After-update_here in
     let t = c.seek.ensures.told in
-    let id = c.args.seat.now.id in
-    let key = c.args.key in
-    let room = c.args.room.now in
-    let ready = ready_kept v w room c.requires.ready t.2 in
-    let value = c.in-Some-At.value in
-    let new = sum_with (Some value) c.args.number in
+    let w = c.seek.new.seat.view in
     let u = c.update_here.new.seat.view in
     let e = c.update_here.ensures.told in
-    let found : c.seek.result ≡ Some (sites.At c.in-Some-At.leaf value) = search rules in
-    let same = at_some (lookup_of id key nowhere) c.seek.result c.in-Some-At.leaf value v w found t.3 in
-    let none : c.update_here.result ≡ None = search rules in
-    let later = c.seek.new.seat.id in
-    let answers = updated_by (update_of later key (Some value) (Some new) (inserted_with later key (Some value) new)) c.update_here.result w u none e.3 in
-    record { told = (e.0 ∙ t.0, e.1 ∙ t.1, ready_rest w u room ready e.2, (new, answers_from later id (λ (z : ℕ). inserted_with z key (Some value) new) w.client.seen v.client.seen u.client.seen t.1 same answers, refl)) }
+    let answers = updated_by (update a) c.update_here.result w u (search rules) e.3 in
+    let by = answers_from c.seek.new.seat.id c.args.seat.now.id (λ (z : ℕ). inserted_with z c.args.key (Some c.in-Some-At.value) (new a)) w.client.seen c.args.seat.now.view.client.seen u.client.seen t.1 (same a) answers in
+    record { told = (e.0 ∙ t.0, e.1 ∙ t.1, ready_then a, (new a, by, refl)) }
 
 pub enter-requires-clause-legal : goal.enter-requires-clause-legal
 enter-requires-clause-legal c = always_update c.seek.new.seat.id c.args.key None c.args.number
 
 pub enter-requires-clause-ready : goal.enter-requires-clause-ready
-enter-requires-clause-ready c = ready_kept c.args.seat.now.view c.seek.new.seat.view c.args.room.now c.requires.ready c.seek.ensures.told.2
+enter-requires-clause-ready c = ready (goal.at.enter-requires-clause-ready c).After-seek
 
 pub returns-in-None : goal.returns-in-None
 returns-in-None c =
-    let v = c.args.seat.now.view in
-    let w = c.seek.new.seat.view in
+    let a = (goal.at.returns-in-None c).After-seek in
     let t = c.seek.ensures.told in
-    let id = c.args.seat.now.id in
-    let key = c.args.key in
-    let room = c.args.room.now in
-    let none : c.seek.result ≡ None = search rules in
-    record { told = (t.0, t.1, ready_kept v w room c.requires.ready t.2, no_more (lookup_of id key nowhere) c.seek.result v w none t.3) }
+    record { told = (t.0, t.1, ready a, no_more (looked a) c.seek.result c.args.seat.now.view c.seek.new.seat.view (search rules) t.3) }

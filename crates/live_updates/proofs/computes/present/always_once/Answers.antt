@@ -1,14 +1,46 @@
-use Rattle.std.proofs.Common.{rules, ℕ, Some, None, IsSome, ◌≡◌, ◌∙◌}
+use Rattle.std.proofs.Common.{rules, ℕ, Some, None, ◌≡◌, ◌∙◌}
+use Rattle.live_growth.specs.Calls.{IsReady}
 use Rattle.live_growth.proofs.Ready.{ready_kept, ready_rest}
 use Rattle.live_updates.specs.declared.lookup.Site.TheVariants as sites
-use Rattle.live_updates.specs.inner.Lookups.{lookup_of}
-use Rattle.live_updates.specs.inner.Updates.{update_of}
+use Rattle.live_updates.specs.inner.Lookups.{Lookup, lookup_of}
+use Rattle.live_updates.specs.inner.Updates.{Update, update_of}
 use Rattle.live_updates.proofs.Made.{no_more, at_some, missed_same, updated_by, answers_from}
 use Rattle.live_updates.specs.ClosureEntries.{inserted_with}
+use Rattle.live_updates.specs.Closures.{Reaches}
 use Rattle.live_updates.specs.inner.Ends.{nowhere}
 use Rattle.live_updates.proofs.Called.{always_lookup, always_update}
 use Rattle.live_updates.proofs.Reached.{no_call, call_on, last_call}
+use Rattle.live_updates.proofs.computes.present.always_once.Given.{Over}
 use Rattle.live_updates.proofs.computes.present.always_once.Goals as goal
+use Rattle.live_updates.proofs.computes.present.always_once.Goals.{After-seek, After-update_here, After-f-new-in-Some-Absent}
+
+-- THE KEY was looked for
+module _ (g : Over) (c : After-seek g) where
+  abbrev looked : Lookup
+  looked = lookup_of c.args.seat.now.id c.args.key nowhere
+
+  ready : IsReady c.seek.new.seat.view c.args.room.now
+  ready = ready_kept c.args.seat.now.view c.seek.new.seat.view c.args.room.now c.requires.ready c.seek.ensures.told.2
+
+-- and found,
+module _ (g : Over) (c : After-update_here g) where
+  abbrev update : Update
+  update = update_of c.seek.new.seat.id c.args.key (Some c.in-Some-At.value) (Some c.f-new.result) (inserted_with c.seek.new.seat.id c.args.key (Some c.in-Some-At.value) c.f-new.result)
+
+  same : c.seek.new.seat.view.client.seen ≡ c.args.seat.now.view.client.seen
+  same =
+      let found : c.seek.result ≡ Some (sites.At c.in-Some-At.leaf c.in-Some-At.value) = search rules in
+      at_some (looked g (goal.at.After-update_here g c).After-seek) c.seek.result c.in-Some-At.leaf c.in-Some-At.value c.args.seat.now.view c.seek.new.seat.view found c.seek.ensures.told.3
+
+  ready_then : IsReady c.update_here.new.seat.view c.args.room.now
+  ready_then = ready_rest c.seek.new.seat.view c.update_here.new.seat.view c.args.room.now (ready g (goal.at.After-update_here g c).After-seek) c.update_here.ensures.told.2
+
+  reached : Reaches (goal.F-step g) c.args.f.now c.f-new.new.self
+  reached = call_on (goal.F-step g) c.args.f.now c.args.f.now c.f-new.new.self (Some c.in-Some-At.value) c.f-new.result (no_call (goal.F-step g) c.args.f.now) c.f-new.ensures
+
+-- or absent
+reached_absent : (g : Over) (c : After-f-new-in-Some-Absent g) → Reaches (goal.F-step g) c.args.f.now c.f-new-in-Some-Absent.new.self
+reached_absent g c = call_on (goal.F-step g) c.args.f.now c.args.f.now c.f-new-in-Some-Absent.new.self None c.f-new-in-Some-Absent.result (no_call (goal.F-step g) c.args.f.now) c.f-new-in-Some-Absent.ensures
 
 pub seek-requires-clause-legal : goal.seek-requires-clause-legal
 seek-requires-clause-legal g c = always_lookup c.args.seat.now.id c.args.key
@@ -17,74 +49,49 @@ pub update_here-requires-clause-legal : goal.update_here-requires-clause-legal
 update_here-requires-clause-legal g c = always_update c.seek.new.seat.id c.args.key (Some c.in-Some-At.value) c.f-new.result
 
 pub returns-then-is_some-clause-reached : goal.returns-then-is_some-clause-reached
-returns-then-is_some-clause-reached g c = call_on (goal.F-step g) c.args.f.now c.args.f.now c.f-new.new.self (Some c.in-Some-At.value) c.f-new.result (no_call (goal.F-step g) c.args.f.now) c.f-new.ensures
+returns-then-is_some-clause-reached g c = reached g (goal.at.returns-then-is_some-clause-reached g c).After-update_here
 
 pub returns-then-is_some-clause-told : goal.returns-then-is_some-clause-told
 returns-then-is_some-clause-told g c =
-    let v = c.args.seat.now.view in
-    let w = c.seek.new.seat.view in
+    let a = (goal.at.returns-then-is_some-clause-told g c).After-update_here in
     let t = c.seek.ensures.told in
-    let id = c.args.seat.now.id in
-    let key = c.args.key in
-    let room = c.args.room.now in
-    let ready = ready_kept v w room c.requires.ready t.2 in
-    let value = c.in-Some-At.value in
-    let new = c.f-new.result in
-    let u = c.update_here.new.seat.view in
     let e = c.update_here.ensures.told in
-    let found : c.seek.result ≡ Some (sites.At c.in-Some-At.leaf value) = search rules in
-    let same = at_some (lookup_of id key nowhere) c.seek.result c.in-Some-At.leaf value v w found t.3 in
-    let some_missed : IsSome c.update_here.result = search rules in
-    let later = c.seek.new.seat.id in
-    let missed = missed_same (update_of later key (Some value) (Some new) (inserted_with later key (Some value) new)) c.update_here.result w u some_missed e.3 in
-    (e.0 ∙ t.0, e.1 ∙ t.1, ready_rest w u room ready e.2, missed ∙ same)
+    let missed = missed_same (update g a) c.update_here.result c.seek.new.seat.view c.update_here.new.seat.view (search rules) e.3 in
+    (e.0 ∙ t.0, e.1 ∙ t.1, ready_then g a, missed ∙ same g a)
 
 pub returns-else-is_some-clause-reached : goal.returns-else-is_some-clause-reached
-returns-else-is_some-clause-reached g c = call_on (goal.F-step g) c.args.f.now c.args.f.now c.f-new.new.self (Some c.in-Some-At.value) c.f-new.result (no_call (goal.F-step g) c.args.f.now) c.f-new.ensures
+returns-else-is_some-clause-reached g c = reached g (goal.at.returns-else-is_some-clause-reached g c).After-update_here
 
 pub returns-else-is_some-clause-told : goal.returns-else-is_some-clause-told
 returns-else-is_some-clause-told g c =
-    let v = c.args.seat.now.view in
-    let w = c.seek.new.seat.view in
+    let a = (goal.at.returns-else-is_some-clause-told g c).After-update_here in
     let t = c.seek.ensures.told in
-    let id = c.args.seat.now.id in
-    let key = c.args.key in
-    let room = c.args.room.now in
-    let ready = ready_kept v w room c.requires.ready t.2 in
-    let value = c.in-Some-At.value in
+    let w = c.seek.new.seat.view in
+    let value = Some c.in-Some-At.value in
     let new = c.f-new.result in
     let u = c.update_here.new.seat.view in
     let e = c.update_here.ensures.told in
-    let found : c.seek.result ≡ Some (sites.At c.in-Some-At.leaf value) = search rules in
-    let same = at_some (lookup_of id key nowhere) c.seek.result c.in-Some-At.leaf value v w found t.3 in
-    let none : c.update_here.result ≡ None = search rules in
-    let later = c.seek.new.seat.id in
-    let answers = updated_by (update_of later key (Some value) (Some new) (inserted_with later key (Some value) new)) c.update_here.result w u none e.3 in
-    (e.0 ∙ t.0, e.1 ∙ t.1, ready_rest w u room ready e.2, (new, answers_from later id (λ (z : ℕ). inserted_with z key (Some value) new) w.client.seen v.client.seen u.client.seen t.1 same answers, last_call (goal.F-step g) c.args.f.now c.f-new.new.self (Some value) new c.f-new.ensures))
+    let answers = updated_by (update g a) c.update_here.result w u (search rules) e.3 in
+    let by = answers_from c.seek.new.seat.id c.args.seat.now.id (λ (z : ℕ). inserted_with z c.args.key value new) w.client.seen c.args.seat.now.view.client.seen u.client.seen t.1 (same g a) answers in
+    (e.0 ∙ t.0, e.1 ∙ t.1, ready_then g a, (new, by, last_call (goal.F-step g) c.args.f.now c.f-new.new.self value new c.f-new.ensures))
 
 pub enter-requires-clause-legal : goal.enter-requires-clause-legal
 enter-requires-clause-legal g c = always_update c.seek.new.seat.id c.args.key None c.f-new-in-Some-Absent.result
 
 pub enter-requires-clause-ready : goal.enter-requires-clause-ready
-enter-requires-clause-ready g c = ready_kept c.args.seat.now.view c.seek.new.seat.view c.args.room.now c.requires.ready c.seek.ensures.told.2
+enter-requires-clause-ready g c = ready g (goal.at.enter-requires-clause-ready g c).After-seek
 
 pub returns-in_err-enter-in-Some-Absent-clause-reached : goal.returns-in_err-enter-in-Some-Absent-clause-reached
-returns-in_err-enter-in-Some-Absent-clause-reached g c = call_on (goal.F-step g) c.args.f.now c.args.f.now c.f-new-in-Some-Absent.new.self None c.f-new-in-Some-Absent.result (no_call (goal.F-step g) c.args.f.now) c.f-new-in-Some-Absent.ensures
+returns-in_err-enter-in-Some-Absent-clause-reached g c = reached_absent g (goal.at.returns-in_err-enter-in-Some-Absent-clause-reached g c).After-f-new-in-Some-Absent
 
 pub returns-then-not-branch-clause-reached : goal.returns-then-not-branch-clause-reached
-returns-then-not-branch-clause-reached g c = call_on (goal.F-step g) c.args.f.now c.args.f.now c.f-new-in-Some-Absent.new.self None c.f-new-in-Some-Absent.result (no_call (goal.F-step g) c.args.f.now) c.f-new-in-Some-Absent.ensures
+returns-then-not-branch-clause-reached g c = reached_absent g (goal.at.returns-then-not-branch-clause-reached g c).After-f-new-in-Some-Absent
 
 pub returns-else-not-branch-clause-reached : goal.returns-else-not-branch-clause-reached
-returns-else-not-branch-clause-reached g c = call_on (goal.F-step g) c.args.f.now c.args.f.now c.f-new-in-Some-Absent.new.self None c.f-new-in-Some-Absent.result (no_call (goal.F-step g) c.args.f.now) c.f-new-in-Some-Absent.ensures
+returns-else-not-branch-clause-reached g c = reached_absent g (goal.at.returns-else-not-branch-clause-reached g c).After-f-new-in-Some-Absent
 
 pub returns-in-None-clause-told : goal.returns-in-None-clause-told
 returns-in-None-clause-told g c =
-    let v = c.args.seat.now.view in
-    let w = c.seek.new.seat.view in
+    let a = (goal.at.returns-in-None-clause-told g c).After-seek in
     let t = c.seek.ensures.told in
-    let id = c.args.seat.now.id in
-    let key = c.args.key in
-    let room = c.args.room.now in
-    let ready = ready_kept v w room c.requires.ready t.2 in
-    let none : c.seek.result ≡ None = search rules in
-    (t.0, t.1, ready, no_more (lookup_of id key nowhere) c.seek.result v w none t.3)
+    (t.0, t.1, ready g a, no_more (looked g a) c.seek.result c.args.seat.now.view c.seek.new.seat.view (search rules) t.3)

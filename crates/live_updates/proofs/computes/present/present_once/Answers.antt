@@ -1,15 +1,40 @@
-use Rattle.std.proofs.Common.{rules, sym, subst, ℕ, Some, None, IsSome, ◌≡◌, ◌∙◌}
+use Rattle.std.proofs.Common.{rules, sym, subst, ℕ, Some, None, ◌≡◌, ◌∙◌}
 use Rattle.std.specs.Option.{option_map}
+use Rattle.live_growth.specs.Calls.{IsReady}
 use Rattle.live_growth.proofs.Ready.{ready_kept}
 use Rattle.live_updates.specs.declared.lookup.Site.TheVariants as sites
-use Rattle.live_updates.specs.inner.Lookups.{lookup_of, EndsBy}
-use Rattle.live_updates.specs.inner.Updates.{update_of}
+use Rattle.live_updates.specs.inner.Lookups.{Lookup, lookup_of, EndsBy}
+use Rattle.live_updates.specs.inner.Updates.{Update, update_of}
 use Rattle.live_updates.proofs.Made.{no_more, at_none, at_some, missed_same, updated_by, answers_from}
 use Rattle.live_updates.specs.ClosureEntries.{computed_with}
+use Rattle.live_updates.specs.Closures.{Reaches}
 use Rattle.live_updates.specs.inner.Ends.{without_call, called_with}
 use Rattle.live_updates.proofs.Called.{present_lookup, present_update}
 use Rattle.live_updates.proofs.Reached.{no_call, call_on}
+use Rattle.live_updates.proofs.computes.present.present_once.Given.{Over}
 use Rattle.live_updates.proofs.computes.present.present_once.Goals as goal
+use Rattle.live_updates.proofs.computes.present.present_once.Goals.{After-seek, After-exchange_here}
+
+-- THE KEY was looked for
+module _ (g : Over) (c : After-seek g) where
+  abbrev looked : Lookup
+  looked = lookup_of c.args.seat.now.id c.args.key (without_call c.args.seat.now.id c.args.key)
+
+  ready : IsReady c.seek.new.seat.view c.args.room.now
+  ready = ready_kept c.args.seat.now.view c.seek.new.seat.view c.args.room.now c.requires.ready c.seek.ensures.told.2
+
+-- and found, and the closure called
+module _ (g : Over) (c : After-exchange_here g) where
+  abbrev update : Update
+  update = update_of c.seek.new.seat.id c.args.key (Some c.in-At.value) c.f-new.result (called_with c.seek.new.seat.id c.args.key (Some c.in-At.value) c.f-new.result)
+
+  same : c.seek.new.seat.view.client.seen ≡ c.args.seat.now.view.client.seen
+  same =
+      let found : c.seek.result ≡ Some (sites.At c.in-At.leaf c.in-At.value) = search rules in
+      at_some (looked g (goal.at.After-exchange_here g c).After-seek) c.seek.result c.in-At.leaf c.in-At.value c.args.seat.now.view c.seek.new.seat.view found c.seek.ensures.told.3
+
+  reached : Reaches (goal.F-step g) c.args.f.now c.f-new.new.self
+  reached = call_on (goal.F-step g) c.args.f.now c.args.f.now c.f-new.new.self c.in-At.value c.f-new.result (no_call (goal.F-step g) c.args.f.now) c.f-new.ensures
 
 pub seek-requires-clause-legal : goal.seek-requires-clause-legal
 seek-requires-clause-legal g c = present_lookup c.args.seat.now.id c.args.key
@@ -19,73 +44,47 @@ returns-in_err-seek-clause-reached g c = no_call (goal.F-step g) c.args.f.now
 
 pub returns-in_err-seek-clause-told : goal.returns-in_err-seek-clause-told
 returns-in_err-seek-clause-told g c =
-    let v = c.args.seat.now.view in
-    let w = c.seek.new.seat.view in
+    let a = (goal.at.returns-in_err-seek-clause-told g c).After-seek in
     let t = c.seek.ensures.told in
-    let id = c.args.seat.now.id in
-    let key = c.args.key in
-    let none : c.seek.result ≡ None = search rules in
     let out : c.from_residual.result ≡ None = search rules in
-    let same = no_more (lookup_of id key (without_call id key)) c.seek.result v w none t.3 in
-    (t.0, t.1, ready_kept v w c.args.room.now c.requires.ready t.2, subst (λ z. EndsBy id (option_map (computed_with id key) z) v w) (sym out) same)
+    let no_value = no_more (looked g a) c.seek.result c.args.seat.now.view c.seek.new.seat.view (search rules) t.3 in
+    (t.0, t.1, ready g a, subst (λ z. EndsBy c.args.seat.now.id (option_map (computed_with c.args.seat.now.id c.args.key) z) c.args.seat.now.view c.seek.new.seat.view) (sym out) no_value)
 
 pub returns-in-Absent-clause-reached : goal.returns-in-Absent-clause-reached
 returns-in-Absent-clause-reached g c = no_call (goal.F-step g) c.args.f.now
 
 pub returns-in-Absent-clause-told : goal.returns-in-Absent-clause-told
 returns-in-Absent-clause-told g c =
-    let v = c.args.seat.now.view in
-    let w = c.seek.new.seat.view in
+    let a = (goal.at.returns-in-Absent-clause-told g c).After-seek in
     let t = c.seek.ensures.told in
-    let id = c.args.seat.now.id in
-    let key = c.args.key in
-    let absent : c.seek.result ≡ Some sites.Absent = search rules in
-    (t.0, t.1, ready_kept v w c.args.room.now c.requires.ready t.2, at_none (lookup_of id key (without_call id key)) c.seek.result v w absent t.3)
+    (t.0, t.1, ready g a, at_none (looked g a) c.seek.result c.args.seat.now.view c.seek.new.seat.view (search rules) t.3)
 
 pub exchange_here-requires-clause-ready : goal.exchange_here-requires-clause-ready
-exchange_here-requires-clause-ready g c = ready_kept c.args.seat.now.view c.seek.new.seat.view c.args.room.now c.requires.ready c.seek.ensures.told.2
+exchange_here-requires-clause-ready g c = ready g (goal.at.exchange_here-requires-clause-ready g c).After-seek
 
 pub exchange_here-requires-clause-legal : goal.exchange_here-requires-clause-legal
 exchange_here-requires-clause-legal g c = present_update c.seek.new.seat.id c.args.key c.in-At.value c.f-new.result
 
 pub returns-then-is_some-clause-reached : goal.returns-then-is_some-clause-reached
-returns-then-is_some-clause-reached g c = call_on (goal.F-step g) c.args.f.now c.args.f.now c.f-new.new.self c.in-At.value c.f-new.result (no_call (goal.F-step g) c.args.f.now) c.f-new.ensures
+returns-then-is_some-clause-reached g c = reached g (goal.at.returns-then-is_some-clause-reached g c).After-exchange_here
 
 pub returns-then-is_some-clause-told : goal.returns-then-is_some-clause-told
 returns-then-is_some-clause-told g c =
-    let v = c.args.seat.now.view in
-    let w = c.seek.new.seat.view in
+    let a = (goal.at.returns-then-is_some-clause-told g c).After-exchange_here in
     let t = c.seek.ensures.told in
-    let id = c.args.seat.now.id in
-    let key = c.args.key in
-    let value = c.in-At.value in
-    let new = c.f-new.result in
-    let u = c.exchange_here.new.seat.view in
     let e = c.exchange_here.ensures.told in
-    let found : c.seek.result ≡ Some (sites.At c.in-At.leaf value) = search rules in
-    let same = at_some (lookup_of id key (without_call id key)) c.seek.result c.in-At.leaf value v w found t.3 in
-    let some_missed : IsSome c.exchange_here.result = search rules in
-    let later = c.seek.new.seat.id in
-    let missed = missed_same (update_of later key (Some value) new (called_with later key (Some value) new)) c.exchange_here.result w u some_missed e.3 in
-    (e.0 ∙ t.0, e.1 ∙ t.1, e.2, missed ∙ same)
+    let missed = missed_same (update g a) c.exchange_here.result c.seek.new.seat.view c.exchange_here.new.seat.view (search rules) e.3 in
+    (e.0 ∙ t.0, e.1 ∙ t.1, e.2, missed ∙ same g a)
 
 pub returns-else-is_some-clause-reached : goal.returns-else-is_some-clause-reached
-returns-else-is_some-clause-reached g c = call_on (goal.F-step g) c.args.f.now c.args.f.now c.f-new.new.self c.in-At.value c.f-new.result (no_call (goal.F-step g) c.args.f.now) c.f-new.ensures
+returns-else-is_some-clause-reached g c = reached g (goal.at.returns-else-is_some-clause-reached g c).After-exchange_here
 
 pub returns-else-is_some-clause-told : goal.returns-else-is_some-clause-told
 returns-else-is_some-clause-told g c =
-    let v = c.args.seat.now.view in
-    let w = c.seek.new.seat.view in
+    let a = (goal.at.returns-else-is_some-clause-told g c).After-exchange_here in
     let t = c.seek.ensures.told in
-    let id = c.args.seat.now.id in
-    let key = c.args.key in
-    let value = c.in-At.value in
-    let new = c.f-new.result in
+    let w = c.seek.new.seat.view in
     let u = c.exchange_here.new.seat.view in
     let e = c.exchange_here.ensures.told in
-    let found : c.seek.result ≡ Some (sites.At c.in-At.leaf value) = search rules in
-    let same = at_some (lookup_of id key (without_call id key)) c.seek.result c.in-At.leaf value v w found t.3 in
-    let none : c.exchange_here.result ≡ None = search rules in
-    let later = c.seek.new.seat.id in
-    let answers = updated_by (update_of later key (Some value) new (called_with later key (Some value) new)) c.exchange_here.result w u none e.3 in
-    (e.0 ∙ t.0, e.1 ∙ t.1, e.2, answers_from later id (λ (z : ℕ). computed_with z key (Some (value, new))) w.client.seen v.client.seen u.client.seen t.1 same answers)
+    let answers = updated_by (update g a) c.exchange_here.result w u (search rules) e.3 in
+    (e.0 ∙ t.0, e.1 ∙ t.1, e.2, answers_from c.seek.new.seat.id c.args.seat.now.id (λ (z : ℕ). computed_with z c.args.key (Some (c.in-At.value, c.f-new.result))) w.client.seen c.args.seat.now.view.client.seen u.client.seen t.1 (same g a) answers)
