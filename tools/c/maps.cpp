@@ -245,6 +245,10 @@ static void removals() {
         return value == 1;
     }) == 667);
     CHECK(asked == 1000 && m.size() == 333 && m.keys(0, 9) == (numbers{1, 4, 7}));
+    auto none = [](auto) { return std::optional<std::uint64_t>(); };
+    CHECK(m.compute(4, none) == 1u && !m.compute(4, none) && m.keys(0, 9) == (numbers{1, 7}));
+    m.insert({{4, 1}, {UINT64_MAX, 2}});
+    CHECK(m.retain([](auto, std::uint64_t value) { return value == 1; }) == 1 && m.size() == 333);
     m.erase_range(100, UINT64_MAX);
     const std::uint64_t charged = m.charged();
     m.shrink_to_fit();
@@ -269,7 +273,7 @@ static void moves() {
     CHECK(other.at(5) == 50 && m.empty());
     swap(m, other);
     map copy = m.copy();
-    CHECK(copy == m && copy != other);
+    CHECK(copy == m && copy != other && copy.limit() == UINT64_MAX && map::with_limit(5000).copy().limit() == 5000);
     copy.clear();
     CHECK(copy.empty() && m.at(5) == 50);
     std::vector<map> maps;
@@ -292,10 +296,15 @@ static void refusals() {
     CHECK(is_refused && m.size() == 1);
     CHECK(m.try_insert_or_assign(UINT64_MAX, 1) == CONGEE_OOM && m.try_insert_or_assign(1, 11) == 1);
     CHECK(!map::try_new(100) && map::try_new().value().empty());
-    std::uint64_t expected = 7;
+    std::uint64_t expected = 7, old = 9;
+    map gone{{1, 1}}, kept = std::move(gone);
+    CHECK(gone.try_insert_or_assign(1, 20, &old) == 0 && old == 9 && gone.try_insert_or_assign(1, 21, &old) == 1 && old == 20);
+    CHECK(gone.at(1) == 21 && kept.at(1) == 1);
     CHECK(!m.compare_exchange(1, expected, 12) && expected == 11 && m.compare_exchange(1, expected, 12));
     is_refused = false;
     try {
+        shared_map tight(2104 + 64);
+        CHECK(tight.insert_or_assign(1, 10) && tight.try_insert_or_assign(UINT64_MAX, 1) == CONGEE_OOM && tight.size() == 1);
         live_map none(100);
     } catch (const std::bad_alloc &) {
         is_refused = true;
@@ -323,12 +332,32 @@ template <class M> static void asked_again(M &map) {
     CHECK(map.retain(keep) == 2 && map.get(20) == 2u && map.size() == size + 1);
     CHECK(asked == (numbers{201, 202, 211, 212, 221, 231}));
     CHECK(map.take(20) == 2u && map.size() == size);
-    const std::uint64_t least = map.first()->first, most = map.last()->first;
-    CHECK(most < UINT64_MAX && !map.pop_last_from(most + 1) && (least == 0 || !map.pop_first_to(least - 1)));
-    const auto first = map.pop_first_to(least), last = map.pop_last_from(most);
-    CHECK(first->first == least && last->first == most && map.size() == size - 2);
-    map.insert_or_assign(least, first->second);
-    map.insert_or_assign(most, last->second);
+    // (a change by a function begins again where another handle came first: at a removal, an exchange, an insertion, a removal)
+    numbers found;
+    auto change = [&](std::optional<std::uint64_t> it) {
+        found.push_back(it.value_or(0));
+        if (found.size() == 5)
+            CHECK(other.erase(20));
+        else if (found.size() % 3 > 0)
+            other.insert_or_assign(20, found.size());
+        return found.size() % 2 ? std::optional<std::uint64_t>() : std::optional<std::uint64_t>(7);
+    };
+    map.insert_or_assign(20, 9);
+    CHECK(map.compute(20, change) == 2u && !map.contains(20) && !map.compute(20, change) && map.take(20) == 7u);
+    CHECK(found == (numbers{9, 1, 2, 0, 4, 0}));
+    const auto least = map.pop_first_to(0);
+    const std::uint64_t second = map.first()->first, most = map.last()->first;
+    CHECK(least->first == 0 && second > 0 && !map.pop_first_to(second - 1) && !map.pop_last_from(most + 1));
+    const auto first = map.pop_first_to(second), last = map.pop_last_from(most);
+    CHECK(first->first == second && last->first == most && map.size() == size - 3);
+    map.insert({*least, *first, *last});
+    std::uint64_t old = 9;
+    CHECK(map.try_insert_or_assign(UINT64_MAX, 5, &old) == 0 && old == 9);
+    CHECK(map.try_insert_or_assign(UINT64_MAX, 6, &old) == 1 && old == 5);
+    CHECK(map.keys().back() == UINT64_MAX && map.values().back() == 6);
+    const congee_cpp::map copy = map.snapshot();
+    CHECK(copy.at(UINT64_MAX) == 6 && copy.contains(0) && copy.size() == size + 1);
+    CHECK(map.retain([](std::uint64_t key, std::uint64_t) { return key < UINT64_MAX; }) == 1 && map.size() == size);
 }
 
 // Counts of four threads, each with a handle of its own, and what one handle returns.
@@ -366,7 +395,7 @@ template <class M> static void in_threads(M counts) {
     counts.each_descending([&](std::uint64_t key, std::uint64_t) { down.push_back(key); });
     CHECK(down.size() == 309 && down.front() == std::uint64_t{9} << 40 && down.back() == 0);
     counts.each_descending(7, 6, [](std::uint64_t, std::uint64_t) { CHECK(false); });
-    CHECK(counts.erase_range(10, 309) == 290 && counts.erase_range(10, 309) == 0 && counts.erase_range(9, 8) == 0);
+    CHECK(counts.erase_range(10, 299) == 290 && counts.erase_range(10, 309) == 0 && counts.erase_range(9, 8) == 0);
     CHECK(counts.keys(3, 5) == (std::vector<std::uint64_t>{3, 4, 5}) && counts.values(3, 5) == counts.keys(3, 5));
     CHECK(counts.keys().size() == 19 && counts.values().back() == 4000 && counts.keys(5, 3).empty());
     counts.insert({{10, 10}, {11, 11}});
@@ -404,6 +433,23 @@ template <class M> static void in_threads(M counts) {
     CHECK(counts.get(3) == 30u && other.get(3) == 30u);
     other.clear();
     CHECK(counts.empty() && !counts.pop_first() && !counts.pop_last());
+}
+
+// Threads erase one range at once: each pair counts for one of them.
+template <class M> static void erased_in_threads(M map) {
+    std::atomic<std::uint64_t> erased{0}, waiting{4};
+    std::vector<std::thread> threads;
+    for (std::uint64_t key = 0; key < 40000; key++)
+        map.insert_or_assign(key, key);
+    for (int t = 0; t < 4; t++)
+        threads.emplace_back([&erased, &waiting, own = map]() mutable {
+            for (waiting--; waiting > 0;)
+                std::this_thread::yield();
+            erased += own.erase_range(0, 39999);
+        });
+    for (std::thread &it : threads)
+        it.join();
+    CHECK(erased == 40000 && map.empty());
 }
 
 // Threads pop what others insert, and change values by a function: each pair goes to one thread, and no step is lost.
@@ -447,8 +493,11 @@ int main() {
     in_threads(live_map(8 << 20));
     CHECK(live_map(8 << 20).limit() == 8 << 20 && shared_map(8000).limit() == 8000);
     CHECK(live_map().limit() == UINT64_MAX && shared_map::sharded(64 * 9000).limit() == 64 * 9000);
+    CHECK(shared_map().charged() == 2104 && shared_map::sharded().charged() == 64 * 2104);
     in_threads(shared_map());
     in_threads(shared_map::sharded());
+    erased_in_threads(live_map());
+    erased_in_threads(shared_map());
     pops_in_threads(live_map(), live_map());
     pops_in_threads(shared_map(), shared_map());
     pops_in_threads(shared_map::sharded(), shared_map::sharded());
