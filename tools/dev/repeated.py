@@ -155,4 +155,4 @@ def faults():
             for groups in here:
                 lost += [f"{path} has {it}, in place of {of:g}" for it, of in zip(groups, wanted) if not is_rounded(it, of)]
         yield name, lost
-    yield "DECISIONS, crates", [f"there are {len(crates())} crates"] * (not 85 <= len(crates()) < 95 or "Some ninety small crates" not in text_of("docs/DECISIONS.md"))
+    yield "DECISIONS, crates", [f"there are {len(crates())} crates"] * (not 95 <= len(crates()) < 105 or "About a hundred small crates" not in text_of("docs/DECISIONS.md"))
