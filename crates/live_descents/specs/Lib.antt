@@ -1,0 +1,2 @@
+pub mod Descents
+pub mod inner
