@@ -1,3 +1,4 @@
 pub mod Within
 pub mod Missed
 pub mod Emptied
+pub mod Judged

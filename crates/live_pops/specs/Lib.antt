@@ -1,2 +1,3 @@
 pub mod Pops
 pub mod Removals
+pub mod Retains
