@@ -155,6 +155,8 @@ int32_t congee_c_live_range(struct congee_const_live_handle *handle, uint64_t st
                             struct congee_pair *buffer, size_t n, uint64_t *out);
 int32_t congee_c_live_range_inclusive(struct congee_const_live_handle *handle, uint64_t start, uint64_t last,
                                       struct congee_pair *buffer, size_t n, uint64_t *out);
+int32_t congee_c_live_range_descending(struct congee_const_live_handle *handle, uint64_t start, uint64_t last,
+                                       struct congee_pair *buffer, size_t n, uint64_t *out);
 int32_t congee_c_live_first(struct congee_const_live_handle *handle, struct congee_pair *pair);
 int32_t congee_c_live_ceiling(struct congee_const_live_handle *handle, uint64_t key, struct congee_pair *pair);
 int32_t congee_c_live_above(struct congee_const_live_handle *handle, uint64_t key, struct congee_pair *pair);

@@ -26,15 +26,15 @@
  * A call of one key that returns CONGEE_BUSY isn't in the history. An insertion that returns CONGEE_OOM is in the
  * history as a look-up of the key that found no value. Ranges, next pairs and counts are in the history by their
  * beginning alone, also where they return CONGEE_BUSY after it. Each key that such a call passes or returns has its
- * value at a moment after the beginning. The moments follow the keys upwards, and for congee_live_last,
- * congee_live_floor and congee_live_below downwards.
+ * value at a moment after the beginning. The moments follow the keys upwards, and downwards for congee_live_last,
+ * congee_live_floor, congee_live_below and ranges downwards.
  *
  * A pop is in the history by the beginning of each search, and by the removal of the pair that the last search found.
  * If another handle removed or changed a found pair first, a comparison that failed is in the history.
  *
- * congee_live_compute, ranges downwards and calls of many pairs make several of the library's calls. Each of those is
- * in the history by itself, and calls of other handles come in between. What such a function does by them is tested,
- * and no theorem states it.
+ * congee_live_compute and calls of many pairs make several of the library's calls. Each of those is in the history by
+ * itself, and calls of other handles come in between. What such a function does by them is tested, and no theorem
+ * states it.
  *
  * The functions for use are plain C around the library's own, and are tested. Tested, and not proved, are also the
  * costs that a comment names, the locks and the memory that a call takes, and that congee_live_charged counts each
@@ -704,22 +704,15 @@ static inline int congee_live_below(const struct congee_live *map, uint64_t key,
  * The page is no snapshot. Each key is read at a moment of the call, and no moment is before the moment of a greater
  * key. Down to the page's last key, and in the whole range if the buffer isn't full, each key that is present
  * throughout the call is in the page. The buffer's pairs behind the written ones are unspecified. The call takes no
- * lock and no memory, and a path from the root for each pair: congee_live_floor finds the first, and congee_live_below
- * each further one. */
+ * lock and no memory. */
 static inline int congee_live_try_range_descending(const struct congee_live *map, uint64_t start, uint64_t last,
                                                    struct congee_pair *buffer, size_t n, size_t *written) {
-    size_t i = 0;
-    for (; i < n; i++) {
-        struct congee_pair it = {0, 0};
-        int code = i == 0 ? congee_live_try_floor(map, last, &it) : congee_live_try_below(map, buffer[i - 1].key, &it);
-        if (code == CONGEE_BUSY)
-            return CONGEE_BUSY;
-        if (code == CONGEE_ABSENT || it.key < start)
-            break;
-        buffer[i] = it;
-    }
-    *written = i;
-    return CONGEE_DONE;
+    struct congee_const_live_handle handle = {map};
+    uint64_t it = 0;
+    int code = n == 0 ? 0 : congee_c_live_range_descending(&handle, start, last, buffer, n, &it);
+    if (code == 0)
+        *written = it;
+    return code;
 }
 
 /* Writes the last pairs with start <= key <= last to the buffer, keys descending, n pairs at most, and returns the
@@ -729,19 +722,13 @@ static inline int congee_live_try_range_descending(const struct congee_live *map
  * The page is no snapshot. Each key is read at a moment of the call, and no moment is before the moment of a greater
  * key. Down to the page's last key, and in the whole range if the buffer isn't full, each key that is present
  * throughout the call is in the page. The buffer's pairs behind the written ones are unspecified. The call takes no
- * lock and no memory, and a path from the root for each pair: congee_live_floor finds the first, and congee_live_below
- * each further one. */
+ * lock and no memory. */
 static inline size_t congee_live_range_descending(const struct congee_live *map, uint64_t start, uint64_t last,
                                                   struct congee_pair *buffer, size_t n) {
-    size_t i = 0;
-    for (; i < n; i++) {
-        struct congee_pair it = {0, 0};
-        int code = i == 0 ? congee_live_floor(map, last, &it) : congee_live_below(map, buffer[i - 1].key, &it);
-        if (code == CONGEE_ABSENT || it.key < start)
-            break;
-        buffer[i] = it;
-    }
-    return i;
+    size_t written = 0;
+    while (congee_live_try_range_descending(map, start, last, buffer, n, &written) == CONGEE_BUSY)
+        CONGEE_YIELD();
+    return written;
 }
 
 /* -- Pops -- */
@@ -884,9 +871,9 @@ static inline int congee_live_each(const struct congee_live *map, uint64_t start
 
 /* Calls f(pair, with) for each pair with start <= key <= last, keys descending, until a call returns something else
  * than 0. Returns what the last call of f returned, or 0 without a call. Reads pages of 64 pairs by
- * congee_live_range_descending, which searches each pair. So each key is read at a moment of its own, and each key that
- * is present throughout the call is among them. Nothing is locked while f runs, so f may call the map, by this handle
- * too. While writers lock or change nodes on the way, the call yields and tries again. */
+ * congee_live_range_descending, so each key is read at a moment of its own, and each key that is present throughout the
+ * call is among them. Nothing is locked while f runs, so f may call the map, by this handle too. While writers lock or
+ * change nodes on the way, the call yields and tries again. */
 static inline int congee_live_each_descending(const struct congee_live *map, uint64_t start, uint64_t last,
                                               congee_visitor *f, void *with) {
     struct congee_pair page[64] = {{0, 0}};

@@ -360,6 +360,14 @@ extern "C" {
         n: usize,
         out: *mut u64,
     ) -> i32;
+    pub fn congee_c_live_range_descending(
+        handle: *mut LiveHandle,
+        start: u64,
+        last: u64,
+        buffer: *mut Pair,
+        n: usize,
+        out: *mut u64,
+    ) -> i32;
     pub fn congee_c_live_first(handle: *mut LiveHandle, pair: *mut Pair) -> i32;
     pub fn congee_c_live_ceiling(handle: *mut LiveHandle, key: u64, pair: *mut Pair) -> i32;
     pub fn congee_c_live_above(handle: *mut LiveHandle, key: u64, pair: *mut Pair) -> i32;

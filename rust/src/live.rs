@@ -8,7 +8,6 @@ use crate::shared::{if_made, next_map, unless_busy, waiting, waiting_for_memory,
 use crate::sys::*;
 use crate::{Map, OutOfMemory, Pair};
 use std::borrow::Borrow;
-use std::convert::Infallible;
 use std::fmt;
 use std::ops::RangeBounds;
 
@@ -22,8 +21,8 @@ use std::ops::RangeBounds;
 /// or hand over a [note](LiveGuard::note), are in order of time from then on. A call also comes after all calls that had
 /// ended before, by whatever guard. For guards that never met, only tests show that. Ranges, next pairs and counts are in
 /// the history by their beginning alone: each key has its value at a moment after that. A pop is in the history by the
-/// beginning of each search, and by the removal of the found pair. This wrapper is tested, as are pages downwards,
-/// iterators and calls with closures, which make several calls of the library.
+/// beginning of each search, and by the removal of the found pair. This wrapper is tested, as are iterators and calls with
+/// closures, which make several calls of the library.
 ///
 /// ```
 /// use proved_congee::LiveMap;
@@ -1367,8 +1366,8 @@ impl LiveGuard {
     /// Writes the last pairs with `start <= key <= last` to the buffer, keys descending, and returns how many pairs fit.
     /// The page is no snapshot: each key is read at a moment of the call, and no moment is before the moment of a greater
     /// key. Down to the page's last pair, and in the whole range if the buffer isn't full, each key that is present
-    /// throughout the call is in the page. The rest of the buffer is unspecified. Each pair takes a search of its own, as
-    /// [`below`](LiveGuard::below). While writers lock or change nodes on the way, the call yields and tries again.
+    /// throughout the call is in the page. The rest of the buffer is unspecified. While writers lock or change nodes on the
+    /// way, the call yields and tries again.
     ///
     /// ```
     /// # fn main() -> Result<(), Box<dyn std::error::Error>> {
@@ -1381,19 +1380,15 @@ impl LiveGuard {
     /// # }
     /// ```
     pub fn read_range_descending(&self, start: u64, last: u64, buffer: &mut [Pair]) -> usize {
-        let floor = |key| Ok::<_, Infallible>(self.floor(key));
-        match pairs_down(start, last, buffer, floor) {
-            Ok(written) => written,
-            Err(never) => match never {},
-        }
+        waiting(|| self.try_read_range_descending(start, last, buffer))
     }
 
     /// Writes the last pairs with `start <= key <= last` to the buffer, keys descending, and returns how many pairs fit.
     /// The page is no snapshot: each key is read at a moment of the call, and no moment is before the moment of a greater
     /// key. Down to the page's last pair, and in the whole range if the buffer isn't full, each key that is present
-    /// throughout the call is in the page. The rest of the buffer is unspecified. Each pair takes a search of its own, as
-    /// [`below`](LiveGuard::below). Doesn't wait: returns [`Busy`], with the map unchanged and all of the buffer
-    /// unspecified, if writers locked or changed nodes of the range at each of a bounded number of tries.
+    /// throughout the call is in the page. The rest of the buffer is unspecified. Doesn't wait: returns [`Busy`], with the
+    /// map unchanged and all of the buffer unspecified, if writers locked or changed nodes of the range at each of a bounded
+    /// number of tries.
     ///
     /// ```
     /// # fn main() -> Result<(), Box<dyn std::error::Error>> {
@@ -1410,12 +1405,17 @@ impl LiveGuard {
         last: u64,
         buffer: &mut [Pair],
     ) -> Result<usize, Busy> {
-        pairs_down(start, last, buffer, |key| self.try_floor(key))
+        let (place, n) = (buffer.as_mut_ptr(), buffer.len());
+        let mut written = 0;
+        let code = unsafe {
+            congee_c_live_range_descending(&mut self.handle(), start, last, place, n, &mut written)
+        };
+        unless_busy(code, |_| as_length(written))
     }
 
-    /// Returns the pairs whose keys are within the bounds, keys ascending, from either end. Upwards the pairs are read in
-    /// pages of 4, then 16, and then 64, and downwards by a search for each pair. Each key has the value of a moment during
-    /// the iteration, and a key that is present throughout is returned.
+    /// Returns the pairs whose keys are within the bounds, keys ascending, from either end. The pairs are read in pages of
+    /// 4, then 16, and then 64. Each key has the value of a moment during the iteration, and a key that is present
+    /// throughout is returned.
     ///
     /// ```
     /// # fn main() -> Result<(), Box<dyn std::error::Error>> {
@@ -1432,9 +1432,8 @@ impl LiveGuard {
         loops::range(self, bounds)
     }
 
-    /// Returns all pairs, keys ascending, from either end. Upwards the pairs are read in pages of 4, then 16, and then 64,
-    /// and downwards by a search for each pair. Each key has the value of a moment during the iteration, and a key that is
-    /// present throughout is returned.
+    /// Returns all pairs, keys ascending, from either end. The pairs are read in pages of 4, then 16, and then 64. Each key
+    /// has the value of a moment during the iteration, and a key that is present throughout is returned.
     ///
     /// ```
     /// # fn main() -> Result<(), Box<dyn std::error::Error>> {
@@ -1452,9 +1451,8 @@ impl LiveGuard {
         self.range(..)
     }
 
-    /// Returns all keys, ascending, from either end. Upwards the pairs are read in pages of 4, then 16, and then 64, and
-    /// downwards by a search for each pair. Each key has the value of a moment during the iteration, and a key that is
-    /// present throughout is returned.
+    /// Returns all keys, ascending, from either end. The pairs are read in pages of 4, then 16, and then 64. Each key has the
+    /// value of a moment during the iteration, and a key that is present throughout is returned.
     ///
     /// ```
     /// # fn main() -> Result<(), Box<dyn std::error::Error>> {
@@ -1468,9 +1466,8 @@ impl LiveGuard {
         Keys { of: self.iter() }
     }
 
-    /// Returns all values, by ascending keys, from either end. Upwards the pairs are read in pages of 4, then 16, and then
-    /// 64, and downwards by a search for each pair. Each key has the value of a moment during the iteration, and a key that
-    /// is present throughout is returned.
+    /// Returns all values, by ascending keys, from either end. The pairs are read in pages of 4, then 16, and then 64. Each
+    /// key has the value of a moment during the iteration, and a key that is present throughout is returned.
     ///
     /// ```
     /// # fn main() -> Result<(), Box<dyn std::error::Error>> {
@@ -1560,26 +1557,6 @@ impl LiveGuard {
     pub fn clear(&self) {
         self.remove_range(..);
     }
-}
-
-// Writes the last pairs from `start` to `last`, keys descending, by a search for the greatest key up to another one.
-fn pairs_down<E>(
-    start: u64,
-    last: u64,
-    buffer: &mut [Pair],
-    mut floor: impl FnMut(u64) -> Result<Option<(u64, u64)>, E>,
-) -> Result<usize, E> {
-    let mut unread = Some(last);
-    let mut written = 0;
-    while let (Some(at), Some(place)) = (unread, buffer.get_mut(written)) {
-        let Some((key, value)) = floor(at)?.filter(|found| found.0 >= start) else {
-            break;
-        };
-        *place = Pair { key, value };
-        written += 1;
-        unread = key.checked_sub(1);
-    }
-    Ok(written)
 }
 
 impl Drop for LiveGuard {

@@ -161,7 +161,7 @@ fn key_and_value(pair: Pair) -> (u64, u64) {
 }
 
 /// The pairs of a range, keys ascending, from either end. The library's ranges beneath are proved, and the iterator is
-/// tested. So is a range of a [`LiveMap`](crate::LiveMap) downwards, which searches pair by pair.
+/// tested.
 #[derive(Clone)]
 pub struct Range<'a> {
     source: Source<'a>,

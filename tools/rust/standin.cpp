@@ -376,6 +376,7 @@ BOTH(add, , THREE(KEY, uint64_t number, OUT), add(p, key, number, out))
 BOTH(get_or_insert, , THREE(KEY, uint64_t value, OUT), get_or_insert(p, key, value, out))
 BOTH(range, const_, TWO(ENDS, OUT), (*out = below_end(p, start, last, buffer, n), 0))
 BOTH(range_inclusive, const_, TWO(ENDS, OUT), (*out = up(p, start, last, buffer, n), 0))
+BOTH(range_descending, const_, TWO(ENDS, OUT), (*out = down(p, start, last, buffer, n), 0))
 BOTH(first, const_, AT, give(p, p.begin(), out))
 BOTH(last, const_, AT, before(p, p.end(), out))
 BOTH(floor, const_, TWO(KEY, AT), before(p, p.upper_bound(key), out))
@@ -383,9 +384,6 @@ BOTH(below, const_, TWO(KEY, AT), before(p, p.lower_bound(key), out))
 BOTH(ceiling, const_, TWO(KEY, AT), give(p, p.lower_bound(key), out))
 BOTH(above, const_, TWO(KEY, AT), give(p, p.upper_bound(key), out))
 BOTH(count, const_, OUT, (*out = p.size(), 0))
-int32_t congee_c_shared_range_descending(congee_const_shared_handle *h, ENDS, OUT) {
-    SHARED(h, (*out = down(p, start, last, buffer, n), 0))
-}
 int32_t congee_c_shared_pop_first(congee_shared_handle *h, AT) { SHARED(h, pop_first(p, out)) }
 int32_t congee_c_shared_pop_last(congee_shared_handle *h, AT) { SHARED(h, pop_last(p, out)) }
 int32_t congee_c_live_pop_first_to(congee_live_handle *h, TWO(KEY, AT)) { SHARED(h, pop_first_to(p, key, out)) }

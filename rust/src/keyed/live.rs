@@ -788,9 +788,9 @@ impl<K: Word, V: Word> OrdLiveGuard<K, V> {
         self.guard.is_empty()
     }
 
-    /// Returns the pairs whose keys are within the bounds, keys ascending, from either end. Upwards the pairs are read in
-    /// pages of 4, then 16, and then 64, and downwards by a search for each pair. Each key has the value of a moment during
-    /// the iteration, and a key that is present throughout is returned.
+    /// Returns the pairs whose keys are within the bounds, keys ascending, from either end. The pairs are read in pages of
+    /// 4, then 16, and then 64. Each key has the value of a moment during the iteration, and a key that is present
+    /// throughout is returned.
     ///
     /// ```
     /// use proved_congee::keyed::OrdLiveMap;
@@ -810,9 +810,8 @@ impl<K: Word, V: Word> OrdLiveGuard<K, V> {
         Range::of(self.guard.range(bounds(of)))
     }
 
-    /// Returns all pairs, keys ascending, from either end. Upwards the pairs are read in pages of 4, then 16, and then 64,
-    /// and downwards by a search for each pair. Each key has the value of a moment during the iteration, and a key that is
-    /// present throughout is returned.
+    /// Returns all pairs, keys ascending, from either end. The pairs are read in pages of 4, then 16, and then 64. Each key
+    /// has the value of a moment during the iteration, and a key that is present throughout is returned.
     ///
     /// ```
     /// use proved_congee::keyed::OrdLiveMap;
