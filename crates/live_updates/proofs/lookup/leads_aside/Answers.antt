@@ -9,7 +9,7 @@ use Rattle.live_updates.proofs.lookup.leads_aside.Goals.{After-index-here-0}
 
 -- it leads on to a node whose path the key leaves
 aside : (g : Over) (c : After-index-here-0 g) → LeadsAside c.watch.new.seat.view c.watch.new.seat.book c.args.here.words.now c.args.here.taken c.args.name c.args.key c.args.height (get_or c.args.here.words.now 0 c.index-here-0.result).key g.Q.Lookups.lookup
-aside g c = let f = c.in-Some-watch.ensures.aside.mismatched in record {
+aside g c = let f = c.in-Some.ensures.aside.mismatched in record {
   node = f;
   high = c.requires.height.0;
   at_k = (first_word (place_at f.names.spot) c.watch.new.seat.book c.args.here.words.now f.are (get_or c.args.here.words.now 0 c.index-here-0.result) c.index-here-0.result refl).0;
