@@ -1,6 +1,7 @@
 //! Maps of typed keys beside std's, by calls at random: each type that has numbers, for each of the three maps.
 
 use proved_congee::keyed::{Half, OrdLiveMap, OrdMap, OrdSharedMap, Word};
+use proved_congee::{LiveMap, Map, SharedMap};
 use std::collections::BTreeMap;
 use std::fmt::Debug;
 use std::ops::Bound::{self, Excluded, Included, Unbounded};
@@ -228,6 +229,42 @@ macro_rules! threads {
     }};
 }
 
+/// The least key and the greatest one in calls of many pairs, and in pops of the last pair that is left.
+macro_rules! ends {
+    ($map:expr) => {{
+        #[allow(unused_mut)]
+        let mut map = $map.unwrap();
+        let all = [(0, 5), (7, 6), (u64::MAX, 8)];
+        assert!(map.extend(all).is_ok());
+        assert!(map.keys().eq([0, 7, u64::MAX]) && map.keys().rev().eq([u64::MAX, 7, 0]));
+        assert!(map.values().eq([5, 6, 8]) && map.values().rev().eq([8, 6, 5]));
+        assert!(map.iter().rev().take(2).eq([(u64::MAX, 8), (7, 6)]));
+        map.retain(|key, _| key < u64::MAX);
+        assert_eq!((map.last(), map.len()), (Some((7, 6)), 2));
+        map.retain(|key, _| key > 0);
+        assert!(map.iter().eq([(7, 6)]) && map.extend(all).is_ok());
+        assert_eq!(map.pop_first_to(0), Some((0, 5)));
+        assert_eq!(
+            (map.pop_first_to(6), map.pop_last_from(8)),
+            (None, Some((u64::MAX, 8)))
+        );
+        assert_eq!(
+            (map.pop_last_from(8), map.pop_last_from(7)),
+            (None, Some((7, 6)))
+        );
+        assert_eq!(map.insert(u64::MAX, 9), Ok(None));
+        assert_eq!(
+            (map.pop_first(), map.pop_last()),
+            (Some((u64::MAX, 9)), None)
+        );
+        assert_eq!(map.insert(0, 9), Ok(None));
+        assert_eq!((map.pop_last(), map.pop_first()), (Some((0, 9)), None));
+        assert!(map.extend(all).is_ok());
+        assert_eq!((map.remove_range(8..), map.remove_range(..=0)), (1, 1));
+        assert_eq!((map.remove_range(..), map.is_empty()), (1, true));
+    }};
+}
+
 /// That numbers keep the order, and lead back.
 fn keep_the_order<K: Word + Ord + Debug>(values: &[K]) {
     for one in values {
@@ -285,6 +322,13 @@ fn main() {
         (i32::MAX, 7),
     ]);
     keep_the_order(&[(false, 'x'), (true, '\0'), (true, 'x')]);
+    ends!(Map::new());
+    ends!(SharedMap::new().unwrap().pin());
+    ends!(SharedMap::sharded().unwrap().pin());
+    ends!(LiveMap::new().unwrap().pin());
+    ends!(OrdMap::<u64, u64>::new());
+    ends!(OrdSharedMap::<u64, u64>::new().unwrap().pin());
+    ends!(OrdLiveMap::<u64, u64>::new().unwrap().pin());
     threads!(OrdSharedMap::with_limit(9_000), 9_000);
     threads!(OrdSharedMap::sharded_with_limit(64 * 9_000), 64 * 9_000);
     threads!(OrdLiveMap::with_limit(90_000), 90_000);

@@ -263,6 +263,31 @@ fn beside_btree() -> Result<(), OutOfMemory> {
     Ok(())
 }
 
+/// Pops that are tried, of the least key and the greatest one, and copies of both.
+fn tried(guard: &LiveGuard) {
+    for (key, found) in [(0, Ok(Some((0, 5)))), (u64::MAX, Ok(Some((u64::MAX, 5))))] {
+        for pop in [LiveGuard::try_pop_first, LiveGuard::try_pop_last] {
+            assert_eq!(guard.insert(key, 5), Ok(None));
+            assert!(guard
+                .snapshot()
+                .expect("there is memory")
+                .iter()
+                .eq([(key, 5)]));
+            assert_eq!((pop(guard), pop(guard)), (found, Ok(None)));
+        }
+        for pop in [LiveGuard::try_pop_first_to, LiveGuard::try_pop_last_from] {
+            assert_eq!(guard.insert(key, 5), Ok(None));
+            assert_eq!((pop(guard, key), pop(guard, key)), (found, Ok(None)));
+        }
+        assert_eq!(guard.insert(7, 5), Ok(None));
+        assert_eq!(
+            (guard.try_pop_first_to(6), guard.try_pop_last_from(8)),
+            (Ok(None), Ok(None))
+        );
+        assert_eq!(guard.remove(7), Some(5));
+    }
+}
+
 /// Adds to keys that all threads have, and stores and removes keys of its own between them. Each range has all keys that stay.
 fn work(guard: &LiveGuard, id: u64) {
     let mut seed = id;
@@ -579,6 +604,7 @@ fn each_counts_for_one() -> Result<(), OutOfMemory> {
 fn main() -> Result<(), OutOfMemory> {
     // (with a word it makes the calls of threads alone, which may be busy)
     if std::env::args().count() == 1 {
+        tried(&LiveMap::new()?.pin()?);
         beside_btree()?;
     }
     by_threads()?;

@@ -237,6 +237,31 @@ fn end(guard: &Guard, plain: &mut Plain, at: u64, seed: &mut u64) {
     }
 }
 
+/// Pops that are tried, of the least key and the greatest one, and copies of both.
+fn tried(guard: &Guard) {
+    for (key, found) in [(0, Ok(Some((0, 5)))), (u64::MAX, Ok(Some((u64::MAX, 5))))] {
+        for pop in [Guard::try_pop_first, Guard::try_pop_last] {
+            assert_eq!(guard.insert(key, 5), Ok(None));
+            assert!(guard
+                .snapshot()
+                .expect("there is memory")
+                .iter()
+                .eq([(key, 5)]));
+            assert_eq!((pop(guard), pop(guard)), (found, Ok(None)));
+        }
+        for pop in [Guard::try_pop_first_to, Guard::try_pop_last_from] {
+            assert_eq!(guard.insert(key, 5), Ok(None));
+            assert_eq!((pop(guard, key), pop(guard, key)), (found, Ok(None)));
+        }
+        assert_eq!(guard.insert(7, 5), Ok(None));
+        assert_eq!(
+            (guard.try_pop_first_to(6), guard.try_pop_last_from(8)),
+            (Ok(None), Ok(None))
+        );
+        assert_eq!(guard.remove(7), Some(5));
+    }
+}
+
 fn against_btree(map: SharedMap, calls: u64) -> Result<(), OutOfMemory> {
     let guards = [map.pin()?, map.try_clone()?.pin()?];
     let (mut plain, mut seed) = (Plain::new(), 7);
@@ -537,6 +562,8 @@ fn in_a_static() {
 fn main() -> Result<(), OutOfMemory> {
     // (with a word it makes the calls of threads alone, which may be busy)
     if std::env::args().count() == 1 {
+        tried(&SharedMap::new()?.pin()?);
+        tried(&SharedMap::sharded()?.pin()?);
         against_btree(SharedMap::new()?, CALLS)?;
         against_btree(SharedMap::sharded()?, FEWER)?;
     }
