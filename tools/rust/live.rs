@@ -288,6 +288,42 @@ fn tried(guard: &LiveGuard) {
     }
 }
 
+fn is_busy<T>(answer: Result<T, impl Into<TryError>>) -> bool {
+    matches!(answer.map_err(Into::into), Err(TryError::Busy))
+}
+
+/// Where each call of the library is busy, each call that is tried returns so at once.
+fn all_busy(guard: &LiveGuard) {
+    let mut page = [Pair::default(); 4];
+    let busy = [
+        is_busy(guard.try_get(7)),
+        is_busy(guard.try_insert(7, 70)),
+        is_busy(guard.try_get_or_insert(7, 70)),
+        is_busy(guard.try_insert_absent(7, 70)),
+        is_busy(guard.try_add(7, 70)),
+        is_busy(guard.try_compute(7, |it| it)),
+        is_busy(guard.try_remove(7)),
+        is_busy(guard.try_compare_exchange(7, 70, 71)),
+        is_busy(guard.try_compare_remove(7, 70)),
+        is_busy(guard.try_first()),
+        is_busy(guard.try_last()),
+        is_busy(guard.try_floor(7)),
+        is_busy(guard.try_ceiling(7)),
+        is_busy(guard.try_below(7)),
+        is_busy(guard.try_above(7)),
+        is_busy(guard.try_pop_first()),
+        is_busy(guard.try_pop_last()),
+        is_busy(guard.try_pop_first_to(7)),
+        is_busy(guard.try_pop_last_from(7)),
+        is_busy(guard.try_read_range(1, 9, &mut page)),
+        is_busy(guard.try_read_range_inclusive(1, 9, &mut page)),
+        is_busy(guard.try_read_range_descending(1, 9, &mut page)),
+        is_busy(guard.try_is_empty()),
+        is_busy(guard.try_len()),
+    ];
+    assert_eq!(busy.iter().position(|it| !it), None);
+}
+
 /// Adds to keys that all threads have, and stores and removes keys of its own between them. Each range has all keys that stay.
 fn work(guard: &LiveGuard, id: u64) {
     let mut seed = id;
@@ -602,8 +638,13 @@ fn each_counts_for_one() -> Result<(), OutOfMemory> {
 }
 
 fn main() -> Result<(), OutOfMemory> {
-    // (with a word it makes the calls of threads alone, which may be busy)
-    if std::env::args().count() == 1 {
+    // (with a word it makes the calls of threads alone, which may be busy, or with `busy` those that all are)
+    let word = std::env::args().nth(1);
+    if word.as_deref() == Some("busy") {
+        all_busy(&LiveMap::new()?.pin()?);
+        return Ok(());
+    }
+    if word.is_none() {
         tried(&LiveMap::new()?.pin()?);
         beside_btree()?;
     }
