@@ -1,6 +1,5 @@
 pub mod Uppers
 pub mod Wholes
-pub mod Mismatches
 pub mod Composed
 pub mod Nones
 pub mod Passes
