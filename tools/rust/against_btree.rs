@@ -1,6 +1,7 @@
-//! A million mixed calls, each answer compared with that of a `BTreeMap`; ranges of all kinds of bounds too.
+//! A million mixed calls, each answer compared with that of a `BTreeMap`; ranges of all kinds of bounds too. Then pairs that are
+//! inserted under a limit.
 
-use proved_congee::{Map, Readers};
+use proved_congee::{ExtendError, LiveMap, Map, Readers, SharedMap};
 use std::collections::BTreeMap;
 use std::ops::Bound;
 use std::thread;
@@ -137,7 +138,21 @@ fn read_side_by_side(map: Map, plain: &BTreeMap<u64, u64>) -> Map {
     readers.into_inner().thaw().unwrap()
 }
 
+/// Where a pair is refused, the ones before it are in the map, and none behind it is tried.
+fn refused() {
+    let pairs = [(1, 10), (u64::MAX, 20), (2, 30)];
+    let stopped = |it: Result<(), ExtendError>| it.map_err(|it| (it.inserted(), it.pair()));
+    let mut map = Map::with_limit(2104 + 64).unwrap();
+    let shared = SharedMap::with_limit(2104 + 64).unwrap().pin().unwrap();
+    let live = LiveMap::with_limit(8192).unwrap().pin().unwrap();
+    assert_eq!(stopped(map.extend(pairs)), Err((1, (u64::MAX, 20))));
+    assert_eq!(stopped(shared.extend(pairs)), Err((1, (u64::MAX, 20))));
+    assert_eq!(stopped(live.extend(pairs)), Err((0, (1, 10))));
+    assert!(map.iter().eq([(1, 10)]) && shared.iter().eq(&map) && live.is_empty());
+}
+
 fn main() {
+    refused();
     move_window(1);
     move_window(256);
     let mut map = Map::new().unwrap();

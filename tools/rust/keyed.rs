@@ -262,6 +262,9 @@ macro_rules! ends {
         assert!(map.extend(all).is_ok());
         assert_eq!((map.remove_range(8..), map.remove_range(..=0)), (1, 1));
         assert_eq!((map.remove_range(..), map.is_empty()), (1, true));
+        assert!(map.extend(all).is_ok());
+        map.clear();
+        assert!(map.is_empty() && map.iter().next().is_none());
     }};
 }
 
