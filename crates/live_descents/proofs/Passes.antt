@@ -13,7 +13,8 @@ use Rattle.live_law.specs.Known.{Known}
 use Rattle.live_law.specs.Begun.{began}
 use Rattle.live_growth.specs.Calls.{known_of}
 use Rattle.live_reads.specs.Roots.{Begins}
-use Rattle.live_reads.specs.Paths.{Names}
+use Rattle.live_reads.specs.Paths.{Names, Keeps}
+use Rattle.live_reads.proofs.Finds.{keeps_then}
 use Rattle.live_scans.specs.Scans.{Moment, HasRead, HasBegun}
 use Rattle.live_scans.specs.inner.Moments.{SeesMore, IsRead}
 use Rattle.live_scans.specs.inner.Downs.{ReadsDown, IsPassed}
@@ -24,6 +25,7 @@ use Rattle.live_scans.proofs.Composed.{one_moment, nothing_between}
 use Rattle.live_scans.proofs.Nones.{value_at}
 use Rattle.live_scans.proofs.Downs.{down_since, passed_since}
 use Rattle.live_scans.proofs.Pages.{begun_by}
+use Rattle.live_scans.proofs.Passes.{seen_since}
 use Rattle.live_descents.specs.Descents.{HasPageDown}
 use Rattle.live_descents.specs.inner.Steps.{IsStep, IsPage}
 use Rattle.live_descents.proofs.Lists.{none_filled}
@@ -31,6 +33,13 @@ use Rattle.live_descents.proofs.Joined.{shrunk_down, down_then}
 
 abbrev Seen : Type 0
 Seen = SeatView View
+
+-- WHAT STAYS: the seat is of the same map and caller, knows as much, and has seen more
+abbrev pub Stays : Book → Book → ℕ → ℕ → Seen → Seen → Type 0
+Stays b b₁ c c₁ u v = (b₁ ≡ b) × (c₁ ≡ c) × Keeps u v × SeesMore v.client.seen c u.client.seen
+
+pub stays_then : (b b₁ b₂ : Book) (c c₁ c₂ : ℕ) (u v w : Seen) → Stays b b₁ c c₁ u v → Stays b₁ b₂ c₁ c₂ v w → Stays b b₂ c c₂ u w
+stays_then b b₁ b₂ c c₁ c₂ u v w s t = (t.0 ∙ s.0, t.1 ∙ s.1, keeps_then u v w s.2 t.2, seen_since c₁ c u v w s.1 s.3 t.3)
 
 -- WHERE A PATH ENDS, from an earlier view on
 pub stops_since : (c id : ℕ) (u v w : Seen) (k key : ℕ) (s : Stop) → c ≡ id → k ≡ key → SeesMore v.client.seen id u.client.seen → Stops c v w k (Some s) → Stops id u w key (Some s)
