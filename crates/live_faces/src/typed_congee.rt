@@ -11,11 +11,13 @@ ghost use Rattle.live_faces.specs.Returned.{ReturnsOld};
 mod computed;
 mod computes;
 mod counts;
+mod descents;
 mod floors;
 mod moves;
 pub mod notes;
 mod pops;
 mod removals;
+mod retains;
 mod scans;
 mod updates;
 

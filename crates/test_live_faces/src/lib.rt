@@ -6,6 +6,8 @@ mod chains;
 #[cfg(test)]
 mod counts;
 #[cfg(test)]
+mod descents;
+#[cfg(test)]
 mod guards;
 #[cfg(test)]
 mod limits;
@@ -25,6 +27,8 @@ mod ranges;
 mod refusals;
 #[cfg(test)]
 mod removals;
+#[cfg(test)]
+mod retains;
 #[cfg(test)]
 mod snapshots;
 #[cfg(test)]
