@@ -128,6 +128,7 @@ FACTS = (
     ("the time of a first proof", first_proof, r"in (\d+) minutes on four threads", ("README.md",)),
     ("the time of the archive", archive, r"(\d+) processor minutes after `?\./congee run`?, else (?:in )?some (\d+)", ("docs/C.md", "docs/RUST.md", "tools/install", "tools/package")),
     ("the time of congee_owned", lambda: in_another_repository("congee_owned"), r"proves them once, in some (\d+) processor minutes", ("docs/RATTLE.md",)),
+    ("the time of congee_live", lambda: in_another_repository("congee_live"), r"`congee_live` takes some (\d+) processor minutes", ("docs/RATTLE.md",)),
     ("the time of congee", lambda: in_another_repository("congee"), r"first check takes some (\d+) processor minutes", ("docs/RATTLE.md",)),
     ("crates of the archive", lambda: [crates_of("congee_c", "congee_shared_c", "congee_live_c")], r"by the lines of its (\d+) crates", ("docs/SPEED.md",)),
     ("definitions of a live map", lambda: lines_of("live"), r"prints the definitions in reading order, (\d+) lines of (\d+) files", ("docs/LIVE.md",)),
