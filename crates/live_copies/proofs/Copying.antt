@@ -21,13 +21,6 @@ err_out P r e is = subst (λ z. IfOk z P) (sym is) tt
 pub keeps_knows : (v w : Seen) → Keeps v w → Knows v w
 keeps_knows v w k = record { places = k.places; met = k.met; room = k.room }
 
-pub knows_on : (u v w : Seen) → Knows u v → Knows v w → Knows u w
-knows_on u v w a b = record {
-  places = λ p h. b.places p (a.places p h);
-  met = λ s h. b.met s (a.met s h);
-  room = b.room ∙ a.room;
-}
-
 -- ALL PAIRS: they are those that were copied
 pub all_taken : (caller : ℕ) (v w : Seen) (name : ℕ) (old new : Pairs ℕ) → HasWhole caller v.client w.client → Takes v name 0 8 old new → old ≡ [] → IsHistory nat_eq w.client.seen new
 all_taken caller v w name old new x t none =

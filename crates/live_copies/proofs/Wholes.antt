@@ -136,21 +136,26 @@ root_word_whole caller id by v k word saw others ns vs p seat low is free agree 
       ),
     )
 
--- A LOOK AT THE ROOT WORD
-module _ (v : Seen) (known : KnowsRootWord v) (k : ℕ) (at_k : 1 ≡ k) (v₁ : Seen) (n : ℕ) (took_it : Takes (reads k) v n none_joined v₁) (caller : ℕ) where
+-- A LOOK AT THE ROOT WORD, which was taken
+pub record HasRootTaken (v w : Seen) (n k : ℕ) : Type 0 where
+  pub known : KnowsRootWord v
+  pub at_k : 1 ≡ k
+  pub took : Takes (reads k) v n none_joined w
+
+module _ {v v₁ : Seen} {n k : ℕ} (r : HasRootTaken v v₁ n k) where
   taken : v₁ ≡ reading v 0 n []
-  taken = root_word_taken v known k at_k v₁ n took_it
+  taken = root_word_taken v r.known k r.at_k v₁ n r.took
 
   pub taken_keeps : Keeps v v₁ × (v₁.client ≡ v.client)
   taken_keeps = reading_keeps v v₁ 0 n [] taken
 
-  pub may_whole : (id : ℕ) → caller ≡ id → MayCheck v₁ k IsMap id (LearnsWhole caller) n
-  may_whole id by = subst (λ (z : Seen). MayCheck z k IsMap id (LearnsWhole caller) n) (sym taken)
-      (place 0 1 1, read 0 n [], (known, at_k), head_read 0 n [] v.reads, refl, root_word_whole caller id by v.client 0 n [] (read 0 n [] ∷ v.reads))
+  pub may_whole : (caller id : ℕ) → caller ≡ id → MayCheck v₁ k IsMap id (LearnsWhole caller) n
+  may_whole caller id by = subst (λ (z : Seen). MayCheck z k IsMap id (LearnsWhole caller) n) (sym taken)
+      (place 0 1 1, read 0 n [], (r.known, r.at_k), head_read 0 n [] v.reads, refl, root_word_whole caller id by v.client 0 n [] (read 0 n [] ∷ v.reads))
 
-  module _ (w : Seen) (m : ℕ) (told : Checks (LearnsWhole caller) (reads k) v₁ m none_joined w) where
+  module _ (caller : ℕ) (w : Seen) (m : ℕ) (told : Checks (LearnsWhole caller) (reads k) v₁ m none_joined w) where
     checked : plays.Checked (LearnsWhole caller v.client 0 n []) n (reading v 0 n []) m w
-    checked = subst (λ (z : Seen). Checks (LearnsWhole caller) (reads k) z m none_joined w) taken told (place 0 1 1) (read 0 n []) known at_k (head_read 0 n [] v.reads)
+    checked = subst (λ (z : Seen). Checks (LearnsWhole caller) (reads k) z m none_joined w) taken told (place 0 1 1) (read 0 n []) r.known r.at_k (head_read 0 n [] v.reads)
 
     pub whole_missed : m ≢ n → Keeps v w × (w.client ≡ v.client)
     whole_missed ne = reading_keeps v w 0 n [] (checked.miss ne)

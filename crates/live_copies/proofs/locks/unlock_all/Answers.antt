@@ -1,46 +1,35 @@
 use Rattle.std.proofs.Common.{rules, [], ◌∷◌, ◌++◌, ◌≡◌, ◌∙◌}
 use Rattle.live_growth.proofs.Locks.{alike_then}
+use Rattle.live_copies.specs.inner.Locks.{IsTop}
 use Rattle.live_copies.proofs.Locking.{locks_last, locks_less, locks_none}
 use Rattle.live_copies.proofs.locks.unlock_all.Goals as goal
+use Rattle.live_copies.proofs.locks.unlock_all.Goals.{In-Some}
+
+-- the node that was locked last
+top : (c : In-Some) → IsTop c.loop-words.seat.view c.loop-words.seat.book c.in-Some.field-0.words.now c.in-Some.field-0.free c.pop.new.self.items
+top c =
+    let all : c.loop-words.locks.items ≡ c.pop.new.self.items ++ c.in-Some.field-0 ∷ [] = search rules in
+    locks_last c.loop-words.seat.view c.loop-words.seat.book c.loop-words.locks.items c.pop.new.self.items c.in-Some.field-0 c.loop-words.invariant.locks all
 
 pub unlock_one-requires-clause-word : goal.unlock_one-requires-clause-word
-unlock_one-requires-clause-word c =
-    let v = c.loop-words.seat.view in
-    let b = c.loop-words.seat.book in
-    let rest = c.pop.new.self.items in
-    let l = c.in-Some.field-0 in
-    let all : c.loop-words.locks.items ≡ rest ++ l ∷ [] = search rules in
-    let top = locks_last v b c.loop-words.locks.items rest l c.loop-words.invariant.locks all in
-    (top.is.even, top.is.small)
+unlock_one-requires-clause-word c = let is = (top (goal.at.unlock_one-requires-clause-word c).In-Some).is in (is.even, is.small)
 
 pub unlock_one-requires-clause-top : goal.unlock_one-requires-clause-top
-unlock_one-requires-clause-top c =
-    let v = c.loop-words.seat.view in
-    let b = c.loop-words.seat.book in
-    let rest = c.pop.new.self.items in
-    let l = c.in-Some.field-0 in
-    let all : c.loop-words.locks.items ≡ rest ++ l ∷ [] = search rules in
-    let top = locks_last v b c.loop-words.locks.items rest l c.loop-words.invariant.locks all in
-    (rest, top)
+unlock_one-requires-clause-top c = (c.pop.new.self.items, top (goal.at.unlock_one-requires-clause-top c).In-Some)
 
 pub loop-words-preserved : goal.loop-words-preserved
 loop-words-preserved c =
-    let u = c.args.seat.now.view in
     let v = c.loop-words.seat.view in
-    let b = c.loop-words.seat.book in
     let w = c.unlock_one.new.seat.view in
     let i = c.loop-words.invariant in
-    let rest = c.pop.new.self.items in
     let l = c.in-Some.field-0 in
-    let all : c.loop-words.locks.items ≡ rest ++ l ∷ [] = search rules in
-    let top = locks_last v b c.loop-words.locks.items rest l i.locks all in
     let t = c.unlock_one.ensures.told in
     record {
       book = t.0 ∙ i.book;
       id = t.1 ∙ i.id;
-      alike = alike_then u v w i.alike t.2;
+      alike = alike_then c.args.seat.now.view v w i.alike t.2;
       seen = t.5 ∙ i.seen;
-      locks = locks_less v w b c.unlock_one.new.seat.book l.words.now l.free rest top t.3 t.4 t.2.places t.0;
+      locks = locks_less v w c.loop-words.seat.book c.unlock_one.new.seat.book l.words.now l.free c.pop.new.self.items (top (goal.at.loop-words-preserved c).In-Some) t.3 t.4 t.2.places t.0;
     }
 
 pub returns : goal.returns

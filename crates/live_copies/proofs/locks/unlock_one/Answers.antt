@@ -1,4 +1,4 @@
-use Rattle.std.proofs.Common.{sym, ap, refl, arith, drop, List, ◌+◌, ◌/◌, ◌∙◌}
+use Rattle.std.proofs.Common.{sym, ap, refl, arith, drop, List, ◌≡◌, ◌+◌, ◌/◌, ◌∙◌}
 use Rattle.live_nodes.specs.Seats.{SeatView, Hold}
 use Rattle.live_law.specs.Levels.{place_at}
 use Rattle.live_law.specs.Views.{View}
@@ -9,30 +9,25 @@ use Rattle.live_growth.proofs.Again.{first_frees, first_freed}
 use Rattle.live_copies.specs.inner.Locks.{own_of, holds_of}
 use Rattle.live_copies.proofs.Locking.{beside}
 use Rattle.live_copies.proofs.locks.unlock_one.Goals as goal
+use Rattle.live_copies.proofs.locks.unlock_one.Goals.{After-index-words-0}
+
+at_k : (c : After-index-words-0) → c.requires.top.1.spot.shape.key ≡ c.index-words-0.result.key
+at_k c = (first_word (place_at c.requires.top.1.spot) c.args.seat.now.book c.args.words.now c.requires.top.1.is.are c.index-words-0.result c.index-words-0.result (sym c.index-words-0.is)).0
 
 pub unlock-requires-clause-frees : goal.unlock-requires-clause-frees
 unlock-requires-clause-frees c =
     let v = c.args.seat.now.view in
-    let words = c.args.words.now in
-    let b = c.args.seat.now.book in
     let free = c.args.free in
     let t = c.requires.top.1 in
-    let first = c.index-words-0.result in
-    let at_k = (first_word (place_at t.spot) b words t.is.are first first (sym c.index-words-0.is)).0 in
     let even = c.requires.word.0 in
-    first_frees v t.spot free t.content (holds_of t.grips) t.holds t.is.placed first.key at_k StaysSame c.args.seat.now.id (free + 4) (node_stays c.args.seat.now.id v.client t.spot t.content (own_of t.grips) t.own t.is.apart (free + 4) (free / 4 + 1) (omega (arith, even)) t.content refl)
+    let stays = node_stays c.args.seat.now.id v.client t.spot t.content (own_of t.grips) t.own t.is.apart (free + 4) (free / 4 + 1) (omega (arith, even)) t.content refl in
+    first_frees v t.spot free t.content (holds_of t.grips) t.holds t.is.placed c.index-words-0.result.key (at_k (goal.at.unlock-requires-clause-frees c).After-index-words-0) StaysSame c.args.seat.now.id (free + 4) stays
 
 pub returns : goal.returns
 returns c =
-    let v = c.args.seat.now.view in
-    let words = c.args.words.now in
-    let b = c.args.seat.now.book in
-    let free = c.args.free in
     let t = c.requires.top.1 in
-    let first = c.index-words-0.result in
-    let at_k = (first_word (place_at t.spot) b words t.is.are first first (sym c.index-words-0.is)).0 in
     let s = c.unlock.ensures.seat in
-    let f = first_freed v t.spot free t.content (holds_of t.grips) t.holds t.is.placed first.key at_k StaysSame (beside t.spot.number t.grips t.is.apart) c.unlock.new.seat.view (free + 4) c.unlock.ensures.told in
+    let f = first_freed c.args.seat.now.view t.spot c.args.free t.content (holds_of t.grips) t.holds t.is.placed c.index-words-0.result.key (at_k (goal.at.returns c).After-index-words-0) StaysSame (beside t.spot.number t.grips t.is.apart) c.unlock.new.seat.view (c.args.free + 4) c.unlock.ensures.told in
     record {
       told = (
         s.0,
