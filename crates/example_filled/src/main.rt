@@ -51,7 +51,11 @@ fn filled<R: Threads + Wait + Sync>(rt: &R, alloc: Global) -> Result<Option<u64>
         || count(rt, shared, 2000),
     );
     let all = count(rt, &map, 2000);
-    if both == (true, true) && seen <= all { Ok(Some(all)) } else { Ok(None) }
+    if both == (true, true) && seen <= all {
+        Ok(Some(all))
+    } else {
+        Ok(None)
+    }
 }
 
 fn main(rt: HostRuntime) -> anyhow::Result<()> {
