@@ -16,6 +16,7 @@ type Map = Congee<u64, u64>;
 // Removes the keys with a remainder by three. How many it removes, how many questions it asks, and how many it leaves.
 fn retain_thirds<R: Wait>(rt: &R, map: &Map, guard: &mut Guard) -> (u128, u64, u128)
     requires { guard.old.book ≡ map.now }
+    ensures { guard.new.book ≡ guard.old.book }
 {
     let mut asked = 0u64;
     let removed = map.retain(
