@@ -145,12 +145,13 @@ fn a_thousand_guards_in_turn_have_one_room(rt: HostRuntime) -> Result<(), Fail> 
     Ok(())
 }
 
-// Two threads, each with a guard for each of its keys: how many keys are stored.
+// Two threads, each with a guard for each of its keys: how many keys are stored. Their keys are in other leaves: while a thread
+// is interrupted in a leaf that it has locked, an insertion into that leaf is busy.
 fn by_two<R: Threads + Sync>(rt: &R, alloc: Global, map: &Pool, first: u64) -> (u64, u64) {
     join(
         rt,
         || in_turn(map, alloc, first),
-        || in_turn(map, alloc, first.wrapping_add(1)),
+        || in_turn(map, alloc, first.wrapping_add(50_000)),
     )
 }
 
