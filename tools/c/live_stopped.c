@@ -90,6 +90,7 @@ static bool is_busy(struct congee_live *map) {
         need(congee_live_try_below(map, LEAF + 1, &pair) == CONGEE_BUSY, "a pair below, in its leaf");
         need(congee_live_try_range(map, LEAF, LEAF + 4, &page, 1, &n) == CONGEE_BUSY, "a range in its leaf");
         need(congee_live_try_range_inclusive(map, 0, LEAF, &page, 1, &n) == CONGEE_BUSY, "a range to its leaf");
+        need(congee_live_try_range_descending(map, 0, LEAF + 4, &page, 1, &n) == CONGEE_BUSY, "a range downwards in its leaf");
         need(congee_live_try_count(map, &found) == CONGEE_BUSY, "a count of all leaves");
         need(congee_live_try_is_empty(map) == CONGEE_BUSY, "a test for no pair, by its leaf");
         need(pair.key == 99 && n == 99, "a busy reader writes no pair and no number");
@@ -107,6 +108,9 @@ static bool is_busy(struct congee_live *map) {
     need(congee_live_try_last(map, &pair) == 1 && pair.key == LEAF + 256, "the last pair, elsewhere");
     need(congee_live_try_floor(map, LEAF + 256, &pair) == 1 && pair.key == LEAF + 256, "a floor elsewhere");
     need(congee_live_try_range(map, LEAF + 256, UINT64_MAX, &page, 1, &n) == 0 && n == 1, "a range elsewhere");
+    need(page.key == LEAF + 256 && page.value == old + 2, "its pair");
+    page.key = n = 0;
+    need(congee_live_try_range_descending(map, LEAF + 256, UINT64_MAX, &page, 1, &n) == 0 && n == 1, "a range downwards elsewhere");
     need(page.key == LEAF + 256 && page.value == old + 2, "its pair");
     need(congee_live_try_add(map, LEAF + 256, 1, &old) == 1 && old == value + 2, "a sum elsewhere");
     need(congee_live_try_remove(map, LEAF + 256, &old) == 1 && old == value + 3, "a removal elsewhere");
