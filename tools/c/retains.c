@@ -497,13 +497,16 @@ static void none_is_passed(void) {
 
 static pthread_barrier_t rounds;
 
-/* Raises counters, so many in each round. A counter that was removed begins again. */
+/* Raises counters, so many in each round. A counter that was removed begins again. A round ends with a wait, too: by then each
+ * thread has read whether it goes on. */
 static void *raise(void *at) {
     struct worker *worker = at;
     uint64_t seed = worker->id;
-    while (pthread_barrier_wait(&rounds), atomic_load(&going))
+    while (pthread_barrier_wait(&rounds), atomic_load(&going)) {
         for (int i = 0; i < 16; i++, worker->count++)
             need(form->add(worker->map, spread(next(&seed) % KEYS), 1, NULL) != CONGEE_OOM, "memory");
+        pthread_barrier_wait(&rounds);
+    }
     return NULL;
 }
 
@@ -549,6 +552,7 @@ static void no_step_is_lost(void) {
         removed += form->retain(map, is_below_full, &sums);
         closes(&sums);
         need(removed == sums.keys, "each pair that isn't to stay is removed");
+        pthread_barrier_wait(&rounds);
     }
     atomic_store(&going, false);
     pthread_barrier_wait(&rounds);

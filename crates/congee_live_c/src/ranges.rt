@@ -9,15 +9,14 @@
 ghost use Rattle.std.specs.Prelude.{◌≡◌, ◌⊎◌, ◌+◌, ◌≤◌, length, take, pos};
 ghost use Rattle.live_layout.specs.Page.{pairs_of};
 ghost use Rattle.live_scans.specs.Scans.{GaveUp, HasPage};
-ghost use Rattle.live_descents.specs.Descents.{HasPageDown};
+ghost use Rattle.live_scans.specs.Descents.{HasPageDown};
 ghost use Rattle.congee_live_c.specs.Answer.{busy};
 ghost use Rattle.congee_live_c.specs.Pairs.{pair_of};
 
 use crate::handle::Handle;
 use crate::{BUSY, Pair};
-use live_descents::descents;
 use live_growth::map::Busy;
-use live_scans::scans;
+use live_scans::{descents, scans};
 
 /// Writes pairs with keys from `start` on and below `end`, keys ascending, as many as there are or as fit, and to `out` how
 /// many. The buffer's entries after them are unspecified. If the buffer is full, the next page begins behind the last key.

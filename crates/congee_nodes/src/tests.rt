@@ -14,6 +14,8 @@ use crate::node_16::Node16;
 use crate::node_48::Node48;
 use crate::node_256::Node256;
 use node_base::few::Few;
+use spec_map::error::OOMError;
+use std::alloc::Global;
 use std::mem::size_of;
 use std::process::Abort;
 use std::test::Fail;
@@ -100,57 +102,69 @@ fn has_base<N: Node<u32>>(node: &N, form: NodeType, prefix: &[u8], count: u16) -
         && base.value_count() == count
 }
 
-// The rows of a node with the children 1, 2, 3 under 10, 20, 30.
+/// Bounds, and what a scan of a node with the children 1, 2, 3 under 10, 20, 30 returns between them.
+type Scan = (u8, u8, &'static [(u8, u32)]);
+
+const SCANS: [Scan; 6] = [
+    (15, 25, &[(20, 2)]),
+    (0, 9, &[]),
+    (10, 30, &[(10, 1), (20, 2), (30, 3)]),
+    (25, 15, &[]),
+    (11, 255, &[(20, 2), (30, 3)]),
+    (31, 255, &[]),
+];
+
 fn scans_rows<N: Node<u32>>(node: &N) -> bool {
-    let rows: [(u8, u8, &[(u8, u32)]); 6] = [
-        (15, 25, &[(20, 2)]),
-        (0, 9, &[]),
-        (10, 30, &[(10, 1), (20, 2), (30, 3)]),
-        (25, 15, &[]),
-        (11, 255, &[(20, 2), (30, 3)]),
-        (31, 255, &[]),
-    ];
-    for (start, end, wanted) in rows {
-        if !scans(node, start, end, wanted) {
+    for (start, end, wanted) in &SCANS {
+        if !scans(node, *start, *end, *wanted) {
             return false;
         }
     }
     true
 }
 
-// Every call of the contract at one form. The node is empty at first, under the prefix 7, 8. Whether each is right.
-fn calls<N: Node<u32>>(node: &mut N, form: NodeType, capacity: Option<u16>) -> [bool; 11] {
+/// What the children under some bytes have to be.
+type Found = (u8, Option<u32>);
+
+// The second child under 30 takes the place of the first.
+const PUT: [(u8, u32); 4] = [(20, 2), (30, 9), (10, 1), (30, 3)];
+
+const FOUND: [Found; 4] = [(10, Some(1)), (30, Some(3)), (29, None), (255, None)];
+
+const TAKEN: [Found; 2] = [(20, Some(2)), (20, None)];
+
+const LEFT: [(u8, u32); 2] = [(10, 1), (30, 3)];
+
+const TAKEN_LAST: [Found; 2] = [(10, Some(1)), (30, Some(3))];
+
+// Whether every call of the contract is right at one form. The node is empty at first, under the prefix 7, 8.
+fn calls<N: Node<u32>>(node: &mut N, form: NodeType, capacity: Option<u16>) -> bool {
     let room = capacity.unwrap_or(60);
-    [
-        has_base(node, form, &[7, 8], 0),
-        // the second child under a byte takes the place of the first
-        puts(node, &[(20, 2), (30, 9), (10, 1), (30, 3)]),
-        has_base(node, form, &[7, 8], 3),
+    let right = [
+        has_base(node, form, &PREFIX, 0),
+        puts(node, &PUT),
+        has_base(node, form, &PREFIX, 3),
         scans_rows(node),
-        finds(
-            node,
-            &[(10, Some(1)), (30, Some(3)), (29, None), (255, None)],
-        ),
-        takes(node, &[(20, Some(2)), (20, None)]),
-        scans(node, 0, 255, &[(10, 1), (30, 3)]),
-        takes(node, &[(10, Some(1)), (30, Some(3))]),
+        finds(node, &FOUND),
+        takes(node, &TAKEN),
+        scans(node, 0, 255, &LEFT),
+        takes(node, &TAKEN_LAST),
         u16::from(fill(node, 60)) == room,
         node.is_full() == capacity.is_some(),
-        has_base(node, form, &[7, 8], room),
-    ]
+        has_base(node, form, &PREFIX, room),
+    ];
+    right == [true; 11]
 }
+
+const PREFIX: [u8; 2] = [7, 8];
 
 #[test]
 fn every_call_at_every_form(rt: HostRuntime) -> Result<(), Fail> {
     let alloc = rt.alloc();
-    let prefix = &[7, 8];
-    let right = [
-        calls(&mut Node4::new(alloc, prefix)?, NodeType::N4, Some(4)),
-        calls(&mut Node16::new(alloc, prefix)?, NodeType::N16, Some(16)),
-        calls(&mut Node48::new(alloc, prefix)?, NodeType::N48, Some(48)),
-        calls(&mut Node256::new(alloc, prefix)?, NodeType::N256, None),
-    ];
-    assert_eq!(rt; right, [[true; 11]; 4]);
+    assert!(rt; calls(&mut Node4::new(alloc, &PREFIX)?, NodeType::N4, Some(4)));
+    assert!(rt; calls(&mut Node16::new(alloc, &PREFIX)?, NodeType::N16, Some(16)));
+    assert!(rt; calls(&mut Node48::new(alloc, &PREFIX)?, NodeType::N48, Some(48)));
+    assert!(rt; calls(&mut Node256::new(alloc, &PREFIX)?, NodeType::N256, None));
     Ok(())
 }
 
@@ -227,34 +241,79 @@ fn grows<A: Node<u32>, B: Node<u32>>(
     into
 }
 
-// Whether a node has this prefix and so many children, and a scan from 0 returns these.
-fn has<N: Node<u32>>(node: &N, prefix: u8, count: u16, end: u8, wanted: &[(u8, u32)]) -> bool {
-    node.base().prefix() == [prefix].as_slice()
-        && node.base().value_count() == count
-        && finds(node, &[(255, Some(0))])
-        && scans(node, 0, end, wanted)
+// Each node has its number as its prefix.
+fn second(rt: &impl Abort, alloc: Global) -> Result<Node16<u32>, OOMError> {
+    let first = Node4::new(alloc, &[1])?;
+    Ok(grows(rt, first, Node16::new(alloc, &[2])?, 4, 0))
+}
+
+fn third(rt: &impl Abort, alloc: Global) -> Result<Node48<u32>, OOMError> {
+    let second = second(rt, alloc)?;
+    Ok(grows(rt, second, Node48::new(alloc, &[3])?, 15, 1))
+}
+
+fn fourth(rt: &impl Abort, alloc: Global) -> Result<Node256<u32>, OOMError> {
+    let third = third(rt, alloc)?;
+    Ok(grows(rt, third, Node256::new(alloc, &[4])?, 46, 2))
+}
+
+fn fifth(rt: &impl Abort, alloc: Global) -> Result<Node256<u32>, OOMError> {
+    let fourth = fourth(rt, alloc)?;
+    let mut last = Node256::new(alloc, &[5])?;
+    fourth.copy_to(&mut last);
+    Ok(last)
+}
+
+/// A prefix, the number of children, and what a scan from 0 up to a byte returns.
+struct Grown {
+    prefix: [u8; 1],
+    count: u16,
+    end: u8,
+    low: &'static [(u8, u32)],
+}
+
+const SECOND: Grown = Grown {
+    prefix: [2],
+    count: 5,
+    end: 255,
+    low: &[(0, 100), (252, 3), (253, 2), (254, 1), (255, 0)],
+};
+
+const THIRD: Grown = Grown {
+    prefix: [3],
+    count: 17,
+    end: 1,
+    low: &[(0, 100), (1, 101)],
+};
+
+const FOURTH: Grown = Grown {
+    prefix: [4],
+    count: 49,
+    end: 210,
+    low: &[(0, 100), (1, 101), (2, 102), (210, 45)],
+};
+
+const FIFTH: Grown = Grown {
+    prefix: [5],
+    count: 49,
+    end: 210,
+    low: &[(0, 100), (1, 101), (2, 102), (210, 45)],
+};
+
+const HIGHEST: [Found; 1] = [(255, Some(0))];
+
+fn has<N: Node<u32>>(node: &N, form: NodeType, wanted: &Grown) -> bool {
+    has_base(node, form, &wanted.prefix, wanted.count)
+        && finds(node, &HIGHEST)
+        && scans(node, 0, wanted.end, wanted.low)
 }
 
 #[test]
 fn growth_keeps_every_child(rt: HostRuntime) -> Result<(), Fail> {
-    let alloc = rt.alloc();
-    let second = grows(
-        &rt,
-        Node4::new(alloc, &[1])?,
-        Node16::new(alloc, &[2])?,
-        4,
-        0,
-    );
-    let five = [(0, 100), (252, 3), (253, 2), (254, 1), (255, 0)];
-    assert!(rt; has(&second, 2, 5, 255, &five));
-    let third = grows(&rt, second, Node48::new(alloc, &[3])?, 15, 1);
-    assert!(rt; has(&third, 3, 17, 1, &[(0, 100), (1, 101)]));
-    let fourth = grows(&rt, third, Node256::new(alloc, &[4])?, 46, 2);
-    let low = [(0, 100), (1, 101), (2, 102), (210, 45)];
-    assert!(rt; has(&fourth, 4, 49, 210, &low));
-    let mut last = Node256::new(alloc, &[5])?;
-    fourth.copy_to(&mut last);
-    assert!(rt; has(&last, 5, 49, 210, &low));
+    assert!(rt; has(&second(&rt, rt.alloc())?, NodeType::N16, &SECOND));
+    assert!(rt; has(&third(&rt, rt.alloc())?, NodeType::N48, &THIRD));
+    assert!(rt; has(&fourth(&rt, rt.alloc())?, NodeType::N256, &FOURTH));
+    assert!(rt; has(&fifth(&rt, rt.alloc())?, NodeType::N256, &FIFTH));
     Ok(())
 }
 
@@ -273,13 +332,13 @@ const STEPS: [u8; 3] = [1, 255, 167];
 
 // Fills an empty node, its bytes in steps of so many. Whether each call is then right, and once a child is out and in
 // again.
-fn fills_every_byte<N: Node<u32>>(node: &mut N, step: u8) -> [bool; 9] {
+fn fills_every_byte<N: Node<u32>>(node: &mut N, step: u8) -> bool {
     let mut room = true;
     for i in 0..=255u8 {
         let byte = i.wrapping_mul(step);
         room = put(node, byte, u32::from(byte).wrapping_mul(3)) && room;
     }
-    [
+    let right = [
         room,
         has_every_byte(node),
         scans(node, 253, 255, &[(253, 759), (254, 762), (255, 765)]),
@@ -293,27 +352,29 @@ fn fills_every_byte<N: Node<u32>>(node: &mut N, step: u8) -> [bool; 9] {
         scans(node, 76, 78, &[(76, 228), (78, 234)]),
         puts(node, &[(77, 231), (0, 0)]),
         has_every_byte(node) && node.base().value_count() == 256,
-    ]
+    ];
+    right == [true; 9]
 }
 
 #[test]
 fn a_full_node_finds_each_child(rt: HostRuntime) -> Result<(), Fail> {
     for step in STEPS {
-        let right = fills_every_byte(&mut Node256::new(rt.alloc(), &[])?, step);
-        assert_eq!(rt; right, [true; 9]);
+        assert!(rt; fills_every_byte(&mut Node256::new(rt.alloc(), &[])?, step));
     }
     Ok(())
 }
 
+const STATED: [(NodeType, u64); 4] = [
+    (NodeType::N4, 64),
+    (NodeType::N16, 168),
+    (NodeType::N48, 672),
+    (NodeType::N256, 2104),
+];
+
 #[test]
-fn sizes_are_stated(rt: HostRuntime) -> Result<(), Fail> {
-    for (form, bytes) in [
-        (NodeType::N4, 64),
-        (NodeType::N16, 168),
-        (NodeType::N48, 672),
-        (NodeType::N256, 2104),
-    ] {
-        assert_eq!(rt; NodeSize::of(form).bytes(), bytes);
+fn sizes_are_stated(rt: HostRuntime) {
+    for (form, bytes) in STATED {
+        assert!(rt; NodeSize::of(form).bytes() == bytes);
     }
     // what each takes in place for children of 8 bytes, and so what a table of nodes takes for one
     let sizes = [
@@ -323,6 +384,5 @@ fn sizes_are_stated(rt: HostRuntime) -> Result<(), Fail> {
         size_of::<Node48<u64>>(),
         size_of::<Node256<u64>>(),
     ];
-    assert_eq!(rt; sizes, [40, 56, 56, 48, 32]);
-    Ok(())
+    assert!(rt; sizes == [40, 56, 56, 48, 32]);
 }

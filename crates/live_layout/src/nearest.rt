@@ -132,6 +132,9 @@ fn in_places<S, R: ReadWords<S>>(cells: &R, up: bool, from: u8, seat: &mut S) ->
 
 /// The nearest child from a byte on, upwards or downwards, of a node of this form: its byte and its word. A list is read
 /// whole, but for the other children's words.
+//
+// (Pages call this for each pair, with a direction that is known there. A call without inlining takes twice the instructions.)
+#[inline(always)]
 pub fn nearest<S, R: ReadWords<S>>(
     cells: &R,
     form: NodeType,

@@ -1,16 +1,14 @@
 -- Look-ups in vain, one after another, and what comes after calls that changed nothing.
-use Rattle.std.proofs.Common.{◌≡◌, ℕ, List, [], ◌∷◌, ◌++◌, Option, Some, Result, Ok, Err, IfOk, refl, sym, ap, ◌∙◌, subst, rules}
+use Rattle.std.proofs.Common.{◌≡◌, ℕ, List, [], ◌∷◌, ◌++◌, Option, Some, Result, Ok, Err, IfOk, refl, sym, ap, ◌∙◌, subst, rules, None, IfSome}
 use mathlib.Core.List.{IsPrefix}
 use Rattle.live_law.specs.Known.{Known, MadeCall}
 use Rattle.live_law.specs.Views.{ask, got, inserted}
+use Rattle.live_updates.specs.Entries.{swapped}
 use Rattle.live_slots.specs.declared.log.LogEntry.{LogEntry}
 use Rattle.live_slots.specs.declared.log.LogEntry.TheVariants.{Issued}
-use Rattle.live_slots.specs.Tickets.{HasIssued}
+use Rattle.live_slots.specs.Tickets.{HasIssued, IsNew, Loan}
 use Rattle.live_slots.proofs.Logs.{get_prefix, prefix_self, prefix_trans}
-use Rattle.live_payloads.specs.Payloads.{PayloadsKnown, FoundRetired, LookedInVain, KnowsMore, FindsPayload, GetsPayload, InsertsPayload}
-
-pub vain_none : (key : ℕ) (k : Known) → LookedInVain key k k
-vain_none key k = ([], refl)
+use Rattle.live_payloads.specs.Payloads.{PayloadsKnown, FoundRetired, LookedInVain, KnowsMore, FindsPayload, GetsPayload, InsertsPayload, ExchangesPayload}
 
 pub vain_once : (key t : ℕ) (k n : Known) → MadeCall k (got (ask k.caller key 0 0) (Some t)) n → LookedInVain key k n
 vain_once key t k n made = (t ∷ [], (k, refl, made))
@@ -27,6 +25,11 @@ module _ {V : Type 0} where
   pub issued_on : (xs ys : List (LogEntry V)) (ticket : ℕ) (value : V) → IsPrefix xs ys → HasIssued xs ticket value → HasIssued ys ticket value
   issued_on xs ys ticket value p h = (h.0, get_prefix xs ys p h.0 (Issued ticket value) h.1)
 
+  -- what is new to a log is new to each beginning of it
+  pub new_on : (xs ys : List (LogEntry V)) (ticket : Option ℕ) → IsPrefix xs ys → IfSome ticket (IsNew ys) → IfSome ticket (IsNew xs)
+  new_on xs ys None p new = tt
+  new_on xs ys (Some t) p new = λ v h. new v (issued_on xs ys t v p h)
+
   pub knows_none : (k : PayloadsKnown V) → KnowsMore k k
   knows_none k = (refl, refl, prefix_self k.log)
 
@@ -38,13 +41,18 @@ module _ {V : Type 0} where
   taken_is (Ok x) value log log' ticket h p taken once = h.1 ∙ ap (λ y. Some y) (once ticket h.0 x (issued_on log log' ticket h.0 p h.2) taken)
   taken_is (Err e) value log log' ticket h p taken once = search rules
 
-  pub gets_once : (key : ℕ) (k n : PayloadsKnown V) (found : Option V) → FindsPayload (got (ask k.tickets.caller key 0 0)) k.tickets n found → GetsPayload key k found n
-  gets_once key k n found f = (k.tickets, vain_none key k.tickets, f)
-
-  pub gets_on : (key : ℕ) (k m n : PayloadsKnown V) (found : Option V) → LookedInVain key k.tickets m.tickets → GetsPayload key m found n → GetsPayload key k found n
+  pub gets_on : (key : ℕ) (k m n : PayloadsKnown V) (found : Option (Loan V)) → LookedInVain key k.tickets m.tickets → GetsPayload key m found n → GetsPayload key k found n
   gets_on key k m n found vain g = (g.0, vain_on key k.tickets m.tickets g.0 vain g.1, g.2)
 
-  pub inserts_on : (key : ℕ) (payload : V) (k m n : PayloadsKnown V) (before : Option V) → m.tickets ≡ k.tickets → IsPrefix k.log m.log → InsertsPayload key payload m before n → InsertsPayload key payload k before n
+  pub exchanges_on : (key old : ℕ) (new : Option V) (answer : Option ℕ → Result (Option ℕ) (Option ℕ)) (k m n : PayloadsKnown V) → m.tickets ≡ k.tickets → IsPrefix k.log m.log → ExchangesPayload key old new answer m n → ExchangesPayload key old new answer k n
+  exchanges_on key old new answer k m n same p e = (
+    e.0,
+    new_on k.log m.log e.0 p e.1,
+    e.2,
+    subst (λ (z : Known). MadeCall z (swapped z.caller key old e.0 (answer e.0)) n.tickets) same e.3,
+  )
+
+  pub inserts_on : (key : ℕ) (payload : V) (k m n : PayloadsKnown V) (before : Option (Loan V)) → m.tickets ≡ k.tickets → IsPrefix k.log m.log → InsertsPayload key payload m before n → InsertsPayload key payload k before n
   inserts_on key payload k m n before same p i = (
     i.0,
     (λ v h. i.1 v (issued_on k.log m.log i.0 v p h)),

@@ -1,5 +1,5 @@
 -- WHAT A CALL OF A MAP OF PAYLOADS DID: the call of tickets that was made, and the payloads of the tickets that it stored or found.
-use Rattle.std.specs.Prelude.{◌≡◌, ℕ, List, [], ◌∷◌, Option, None, Some, Result, option_and_then}
+use Rattle.std.specs.Prelude.{◌≡◌, ℕ, List, [], ◌∷◌, Option, None, Some, IfSome, Result}
 use base.Stored.{Coded, coded×, coded_via}
 use mathlib.Core.List.{IsPrefix}
 use Rattle.logbook.specs.Pages as logs
@@ -43,27 +43,33 @@ module _ {V : Type 0} where
   abbrev pub KnowsMore : PayloadsKnown V → PayloadsKnown V → Type 0
   KnowsMore k n = (n.tickets.book ≡ k.tickets.book) × (n.table ≡ k.table) × IsPrefix k.log n.log
 
-  -- the payload that was lent, if one was
-  abbrev pub lent_value : Option (Loan V) → Option V
-  lent_value lent = option_and_then (λ (l : Loan V). l.value) lent
-
   -- THE PAYLOAD OF A TICKET: there is a ticket, and it was issued for this payload, or there is neither
   abbrev pub IsPayloadOf : List (LogEntry V) → Option ℕ → Option V → Type 0
   IsPayloadOf log None payload = payload ≡ None
   IsPayloadOf log (Some ticket) payload = (x : V) × (payload ≡ Some x) × HasIssued log ticket x
 
-  -- A CALL FOUND THIS PAYLOAD, or none: its entry has the ticket that the key had
-  abbrev pub FindsPayload : (Option ℕ → Entry ℕ) → Known → PayloadsKnown V → Option V → Type 0
-  FindsPayload entry k n found = (ticket : Option ℕ) × MadeCall k (entry ticket) n.tickets × IsPayloadOf n.log ticket found
+  -- WHAT IS LENT under a ticket: the payload that it was issued for
+  abbrev pub IsLoan : List (LogEntry V) → ℕ → Loan V → Type 0
+  IsLoan log ticket lent = (lent.ticket ≡ ticket) × IsPayloadOf log (Some ticket) lent.value
+
+  -- what is lent under a ticket, or nothing, where there is no ticket
+  abbrev pub IsLoanOf : List (LogEntry V) → Option ℕ → Option (Loan V) → Type 0
+  IsLoanOf log None lent = lent ≡ None
+  IsLoanOf log (Some ticket) lent = (l : Loan V) × (lent ≡ Some l) × IsLoan log ticket l
+
+  -- A CALL FOUND THIS PAYLOAD, or none: its entry has the ticket that the key had, and under that the payload is lent
+  abbrev pub FindsPayload : (Option ℕ → Entry ℕ) → Known → PayloadsKnown V → Option (Loan V) → Type 0
+  FindsPayload entry k n found = (ticket : Option ℕ) × MadeCall k (entry ticket) n.tickets × IsLoanOf n.log ticket found
 
   -- A LOOK-UP
-  abbrev pub GetsPayload : ℕ → PayloadsKnown V → Option V → PayloadsKnown V → Type 0
+  abbrev pub GetsPayload : ℕ → PayloadsKnown V → Option (Loan V) → PayloadsKnown V → Type 0
   GetsPayload key k found n = (last : Known) × LookedInVain key k.tickets last × FindsPayload (got (ask last.caller key 0 0)) last n found
 
   -- AN INSERTION of this payload, under a ticket that nobody had before
-  abbrev pub InsertsPayload : ℕ → V → PayloadsKnown V → Option V → PayloadsKnown V → Type 0
+  abbrev pub InsertsPayload : ℕ → V → PayloadsKnown V → Option (Loan V) → PayloadsKnown V → Type 0
   InsertsPayload key payload k before n = (ticket : ℕ) × IsNew k.log ticket × HasIssued n.log ticket payload × FindsPayload (inserted (ask k.tickets.caller key ticket 1)) k.tickets n before
 
-  -- AN EXCHANGE of the payload with the ticket `old` for this one, or for none, by what was answered to the ticket of the new one
+  -- AN EXCHANGE of the payload with the ticket `old` for this one, under a ticket that nobody had before, or for none, by what was
+  -- answered to the ticket of the new one
   abbrev pub ExchangesPayload : ℕ → ℕ → Option V → (Option ℕ → Result (Option ℕ) (Option ℕ)) → PayloadsKnown V → PayloadsKnown V → Type 0
-  ExchangesPayload key old new answer k n = (ticket : Option ℕ) × IsPayloadOf n.log ticket new × MadeCall k.tickets (swapped k.tickets.caller key old ticket (answer ticket)) n.tickets
+  ExchangesPayload key old new answer k n = (ticket : Option ℕ) × IfSome ticket (IsNew k.log) × IsPayloadOf n.log ticket new × MadeCall k.tickets (swapped k.tickets.caller key old ticket (answer ticket)) n.tickets

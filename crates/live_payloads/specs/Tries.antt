@@ -1,5 +1,5 @@
 -- CALLS THAT TRY AGAIN: what the tries before the last one did, and what the last one did.
-use Rattle.std.specs.Prelude.{◌≡◌, ◌⊎◌, ℕ, zero, suc, Bool, true, false, List, Option, None, Some, Ok, Err}
+use Rattle.std.specs.Prelude.{◌≡◌, ◌⊎◌, ℕ, zero, suc, Bool, true, false, List, Option, None, Some, IfSome, Ok, Err}
 use Rattle.live_law.specs.Known.{Known, MadeCall}
 use Rattle.live_law.specs.Views.{ask, got}
 use Rattle.live_updates.specs.Entries.{swapped}
@@ -9,7 +9,7 @@ use Rattle.live_scans.specs.Floors.{HasBefore}
 use Rattle.live_pops.specs.Pops.{HasPopped}
 use Rattle.live_slots.specs.declared.log.LogEntry.{LogEntry}
 use Rattle.live_slots.specs.Tickets.{HasIssued, IsNew, Loan}
-use Rattle.live_payloads.specs.Payloads.{PayloadsKnown, IsPayloadOf, FindsPayload}
+use Rattle.live_payloads.specs.Payloads.{PayloadsKnown, IsPayloadOf, IsLoan, FindsPayload}
 
 -- SO MANY TRIES, one after another, each of which did this
 abbrev pub HaveTried : (Known → Known → Type 0) → ℕ → Known → Known → Type 0
@@ -37,23 +37,23 @@ MissedNeighbour up key k n = GaveUp k n ⊎ ((p : ℕ × ℕ) × HasNeighbour up
 
 module _ {V : Type 0} where
   -- A LOOK-UP, after calls that changed no pair, found this payload, or none
-  abbrev pub FindsAtLast : ℕ → PayloadsKnown V → Option V → PayloadsKnown V → Type 0
+  abbrev pub FindsAtLast : ℕ → PayloadsKnown V → Option (Loan V) → PayloadsKnown V → Type 0
   FindsAtLast key k found n = (m : Known) × Tried (ChangedNone key) k.tickets m × FindsPayload (got (ask m.caller key 0 0)) m n found
 
-  -- AN ABSENT KEY GOT THIS PAYLOAD, under a ticket that nobody had before
-  abbrev pub AddsPayload : ℕ → V → PayloadsKnown V → PayloadsKnown V → Type 0
-  AddsPayload key payload k n = (m : Known) × Tried (ChangedNone key) k.tickets m
-      × (ticket : ℕ) × IsNew k.log ticket × HasIssued n.log ticket payload × MadeCall m (inserted_with m.caller key None ticket) n.tickets
+  -- AN ABSENT KEY GOT THIS PAYLOAD, under this ticket, which nobody had before
+  abbrev pub AddsPayload : ℕ → ℕ → V → PayloadsKnown V → PayloadsKnown V → Type 0
+  AddsPayload key ticket payload k n = (m : Known) × Tried (ChangedNone key) k.tickets m
+      × IsNew k.log ticket × HasIssued n.log ticket payload × MadeCall m (inserted_with m.caller key None ticket) n.tickets
 
-  -- A KEY'S PAYLOAD `old` WAS EXCHANGED for this one, or for none
-  abbrev pub ReplacesPayload : ℕ → V → Option V → PayloadsKnown V → PayloadsKnown V → Type 0
-  ReplacesPayload key old new k n = (m : Known) × Tried (ChangedNone key) k.tickets m
-      × (ticket : ℕ) × (next : Option ℕ) × HasIssued n.log ticket old × IsPayloadOf n.log next new × MadeCall m (swapped m.caller key ticket next (Ok next)) n.tickets
+  -- A KEY'S PAYLOAD `old`, which has this ticket, WAS EXCHANGED for this one, under a ticket that nobody had before, or for none
+  abbrev pub ReplacesPayload : ℕ → ℕ → V → Option V → PayloadsKnown V → PayloadsKnown V → Type 0
+  ReplacesPayload key ticket old new k n = (m : Known) × Tried (ChangedNone key) k.tickets m
+      × (next : Option ℕ) × IfSome next (IsNew k.log) × HasIssued n.log ticket old × IsPayloadOf n.log next new × MadeCall m (swapped m.caller key ticket next (Ok next)) n.tickets
 
-  -- a key, read back from its number, and the payload of its ticket, or neither
+  -- a key, read back from its number, and what is lent under its ticket, or neither
   abbrev pub IsPairOf : {K : Type 0} → (ℕ → K) → List (LogEntry V) → Option (ℕ × ℕ) → Option (K × Loan V) → Type 0
   IsPairOf of_number log None found = found ≡ None
-  IsPairOf of_number log (Some p) found = (l : Loan V) × (found ≡ Some (of_number p.0, l)) × IsPayloadOf log (Some p.1) l.value
+  IsPairOf of_number log (Some p) found = (l : Loan V) × (found ≡ Some (of_number p.0, l)) × IsLoan log p.1 l
 
   -- A SEARCH, after some that missed it, found the next pair, or none
   abbrev pub FindsNeighbour : {K : Type 0} → (ℕ → K) → Bool → ℕ → PayloadsKnown V → Option (K × Loan V) → PayloadsKnown V → Type 0

@@ -37,6 +37,7 @@ impl<P: Drop> PayloadGuard<P> {
         ensures map { KnowsMore self.old self.new }
         ensures tickets { self.new.tickets ≡ self.old.tickets }
         ensures taken { IfOk result (λ payload. lent.entry.value ≡ Some payload) }
+        ensures issued { IfOk result (λ payload. HasIssued self.new.log lent.entry.ticket payload) }
         ensures back { IfErr result (λ it. it ≡ lent.entry) }
     {
         lent.inform(&mut self.seen);

@@ -3,11 +3,12 @@
 //! Tested in `test_live_slots`.
 ghost use Rattle.std.specs.Prelude.{◌≡◌, ◌^◌, ◌-◌, ℕ, [], Some, IfOk, IfErr, IfSome, IfNone, OnErr};
 ghost use Rattle.live_slots.specs.Tickets.{HasIssued, IsNew};
-ghost use Rattle.live_payloads.specs.Payloads.{IsGuardOf, KnowsMore, IsPayloadOf, LookedInVain, GetsPayload, lent_value};
+ghost use Rattle.live_payloads.specs.Payloads.{IsGuardOf, KnowsMore, IsLoan, LookedInVain, GetsPayload};
 
-mod computed;
+mod closures;
 mod counts;
 mod exchanges;
+mod get_or_insert;
 mod neighbours;
 pub mod owners;
 mod pops;
@@ -109,7 +110,7 @@ impl<K: Word, P: Drop> PayloadCongee<K, P> {
         requires map { IsGuardOf self.now guard.old }
         ensures map { KnowsMore guard.old guard.new }
         ensures tickets { guard.new.tickets ≡ guard.old.tickets }
-        ensures payload { IfSome result (λ lent. IsPayloadOf guard.new.log (Some ticket) lent.value) }
+        ensures payload { IfSome result (λ lent. IsLoan guard.new.log ticket lent) }
         ensures table { IfSome result (λ lent. lent.table ≡ self.now.table) }
     {
         let lent = self.slots.lend(ticket)?;
@@ -126,7 +127,7 @@ impl<K: Word, P: Drop> PayloadCongee<K, P> {
         requires map { IsGuardOf self.now guard.old }
         ensures map { KnowsMore guard.old guard.new }
         ensures made { IfOk result (λ looked. IfSome looked (λ found.
-            GetsPayload number guard.old (lent_value found) guard.new)) }
+            GetsPayload number guard.old found guard.new)) }
         ensures table { IfOk result (λ looked. IfSome looked (λ found.
             IfSome found (λ lent. lent.table ≡ self.now.table))) }
         ensures vain { IfOk result (λ looked. IfNone looked
@@ -147,7 +148,7 @@ impl<K: Word, P: Drop> PayloadCongee<K, P> {
         requires map { IsGuardOf self.now guard.old }
         ensures map { KnowsMore guard.old guard.new }
         ensures made { IfOk result (λ found.
-            GetsPayload (K.number key.now) guard.old (lent_value found) guard.new) }
+            GetsPayload (K.number key.now) guard.old found guard.new) }
         ensures table { IfOk result (λ found. IfSome found (λ lent. lent.table ≡ self.now.table)) }
         ensures busy { OnErr result
             (LookedInVain (K.number key.now) guard.old.tickets guard.new.tickets) }
@@ -164,7 +165,7 @@ impl<K: Word, P: Drop> PayloadCongee<K, P> {
     pub fn get<R: Wait>(&self, rt: &R, guard: &mut PayloadGuard<P>, key: &K) -> Option<Lent<'_, P>>
         requires map { IsGuardOf self.now guard.old }
         ensures map { KnowsMore guard.old guard.new }
-        ensures made { GetsPayload (K.number key.now) guard.old (lent_value result) guard.new }
+        ensures made { GetsPayload (K.number key.now) guard.old result guard.new }
         ensures table { IfSome result (λ lent. lent.table ≡ self.now.table) }
     {
         let pause = Backoff::new();

@@ -56,7 +56,7 @@ listed_to k n low high room ps i d is p =
     let b = l.1 in
     let up = rises_to low p.end ps i d is r.ascend in
     record {
-      listed = (p.seen, shrunk p.seen.start.seen n.seen low p.end ((get_or ps i d).0 + 1) ps r (omega (arith, b)) up);
+      listed = (p.seen, shrunk true p.seen.start.seen n.seen low p.end low ((get_or ps i d).0 + 1) ps r (omega arith) (omega (arith, b)) up);
       low_is = a;
       inside = omega (arith, b, inside);
       few = rises_few low ((get_or ps i d).0 + 1) ps (omega (arith, a)) up;

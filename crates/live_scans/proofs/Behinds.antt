@@ -1,22 +1,18 @@
 -- What a node shows of keys before one.
-use Rattle.std.proofs.Common.{◌≡◌, ◌≢◌, ℕ, suc, ◌+◌, ◌-◌, ◌*◌, ◌%◌, ◌<◌, ◌≤◌, false, List, [], ◌∷◌, Option, Some, None, IfSome, IfNone, length, refl, sym, ap, ◌∙◌, subst, arith, ne_eqb, eq-eqb, inl, inr}
-use Rattle.std.proofs.lemmas.Bool.{cases_lt}
+use Rattle.std.proofs.Common.{◌≡◌, ℕ, suc, ◌+◌, ◌-◌, ◌*◌, ◌%◌, ◌<◌, ◌≤◌, false, List, Option, Some, None, IfSome, sym, ap, ◌∙◌, subst, arith}
 use Rattle.spec_map.specs.Map.{lookup}
 use Rattle.spec_node.specs.TableNode.{Child}
 use Rattle.live_nodes.specs.Seats.{SeatView}
-use Rattle.live_layout.specs.Encodes.{payload_of}
-use Rattle.live_layout.proofs.StandLaws.{leaf-found}
 use Rattle.live_layout.specs.Order.{HasNearest}
 use Rattle.live_law.specs.Levels.{up, digit}
 use Rattle.live_law.specs.Views.{View}
 use Rattle.live_law.proofs.Plans.{up-up}
 use Rattle.live_reads.specs.Paths.{Names}
-use Rattle.live_scans.specs.inner.Moments.{HasUnder, IsRead, HasNone, IsBeside}
+use Rattle.live_scans.specs.inner.Moments.{HasUnder, IsRead, HasNone, IsBeside, IsPassed}
 use Rattle.live_scans.proofs.Uppers.{up-rises}
-use Rattle.live_scans.proofs.Composed.{one_moment}
-use Rattle.live_scans.proofs.Nones.{covers_like, at_digit, value_at, splits}
-use Rattle.live_scans.specs.inner.Downs.{IsByteAfter, IsUpTo, IsPassed, ReadsDown, Finds}
-use Rattle.live_scans.proofs.Downs.{none_down}
+use Rattle.live_scans.proofs.Composed.{none_read}
+use Rattle.live_scans.proofs.Nones.{covers_like, at_digit, splits}
+use Rattle.live_scans.specs.inner.Gaps.{IsByteAfter, IsUpTo}
 
 abbrev Seen : Type 0
 Seen = SeatView View
@@ -79,49 +75,10 @@ is_after height key first at b k some_at low less is from to =
     (raised k ∙ (ap (up (height - 1 - at)) same ∙ sym (raised key)), λ other. omega (arith, other, z, is))
 
 -- down to a leaf's first key
-pub is_passed : (id : ℕ) (v w : Seen) (Is : ℕ → Type 0) (key first : ℕ) (r : Option ℕ) → HasNone id v w Is → ((k : ℕ) → first ≤ k → k ≤ key → Is k) → IfSome r (λ f. (f ≡ first) × (f ≤ key) × (f % 256 ≡ 0)) → IfSome r (λ f. IsPassed id v w f key)
+pub is_passed : (id : ℕ) (v w : Seen) (Is : ℕ → Type 0) (key first : ℕ) (r : Option ℕ) → HasNone id v w Is → ((k : ℕ) → first ≤ k → k ≤ key → Is k) → IfSome r (λ f. (f ≡ first) × (f ≤ key) × (f % 256 ≡ 0)) → IfSome r (λ f. IsPassed false id v w key f)
 is_passed id v w Is key first None n all p = tt
 is_passed id v w Is key first (Some f) n all p = record {
-  high = p.1;
+  order = p.1;
   seam = p.2;
-  reads = none_down id v w Is f (key + 1) n (λ k from to. all k (let e = p.0 in omega (arith, from, e)) (omega (arith, to)));
+  reads = none_read false id v w Is f (key + 1) n (λ k from to. all k (let e = p.0 in omega (arith, from, e)) (omega (arith, to)));
 }
-
--- A LEAF
-one_value : (p : ℕ × ℕ) (k : ℕ) → p.0 ≡ k → lookup (p ∷ []) k ≡ Some p.1
-one_value p k is = rw (eq-eqb p.0 k is) refl
-
-no_value : (p : ℕ × ℕ) (k : ℕ) → p.0 ≢ k → lookup (p ∷ []) k ≡ None
-no_value p k ne = rw (ne_eqb p.0 k ne) refl
-
-module _ (id : ℕ) (v w : Seen) (name base from : ℕ) (n : Names v name (base + from) 1) (word : ℕ) (saw : List (ℕ × ℕ)) (x : IsRead id v.client n.spot n.spot.shape word saw w.client) (whole : base % 256 ≡ 0) (small : from ≤ 255) where
-  value_here : (k : ℕ) → base ≤ k → k < base + from + 1 → payload_of (lookup x.node.its.children (k - base)) ≡ lookup x.pairs k
-  value_here = value_at id v w name base from from n word saw x whole small small
-
-  none_at : (k : ℕ) → base ≤ k → k < base + from + 1 → lookup x.node.its.children (k - base) ≡ None → None ≡ lookup x.pairs k
-  none_at k lk hk none = sym (ap payload_of none) ∙ value_here k lk hk
-
-  some_read : (e : ℕ × ℕ) → HasNearest false x.node.its.children from (Some e) → payload_of (lookup x.node.its.children e.0) ≡ Some e.1 → ReadsDown id v w (base + e.0) (base + from + 1) ((base + e.0, e.1) ∷ [])
-  some_read e near is =
-      let low = near.0 in record {
-        fits = x.fits;
-        legal = (x.pairs, x.legal);
-        read = one_moment false v.client.seen w.client.seen x.pairs (base + e.0) (base + from + 1) ((base + e.0, e.1) ∷ []) x.fits.begins x.legal (omega arith, omega (arith, low), tt)
-            (λ k lk hk.
-            elim (cases_lt (base + e.0) k) [
-              | inl after ↦ no_value (base + e.0, e.1) k (λ same. omega (arith, same, after)) ∙ none_at k (omega (arith, lk)) hk (near.2 (k - base) (omega (arith, hk)) (omega (arith, after)))
-              | inr at ↦ let e0 : base + e.0 ≡ k = omega (arith, at, lk) in
-                  one_value (base + e.0, e.1) k e0 ∙ (sym is ∙ (ap (λ (z : ℕ). payload_of (lookup x.node.its.children z)) (let d : e.0 ≡ k - base = omega (arith, e0) in d) ∙ value_here k (omega (arith, lk)) hk))
-            ]);
-      }
-
-  pub leaf_finds : (found r : Option (ℕ × ℕ)) → length x.node.its.prefix ≡ 7 → HasNearest false x.node.its.children from found → IfNone found (r ≡ None) → IfSome found (λ e. r ≡ Some (base + e.0, e.1)) → Finds id v w base (base + from + 1) r
-  leaf_finds None r seven near none some = subst (λ (z : Option (ℕ × ℕ)). Finds id v w base (base + from + 1) z) (sym none) record {
-    fits = x.fits;
-    legal = (x.pairs, x.legal);
-    read = one_moment false v.client.seen w.client.seen x.pairs base (base + from + 1) [] x.fits.begins x.legal tt (λ k lk hk. none_at k lk hk (near (k - base) (omega (arith, hk))));
-  }
-  leaf_finds (Some e) r seven near none some =
-      let low = near.0 in
-      subst (λ (z : Option (ℕ × ℕ)). Finds id v w base (base + from + 1) z) (sym some)
-      (omega arith, omega (arith, low), some_read e near (leaf-found x.node.content x.node.its e.0 (Some e.1) x.node.encodes seven near.1))

@@ -1,13 +1,14 @@
 -- What was read at one moment, and one after the other.
-use Rattle.std.proofs.Common.{◌≡◌, ◌⊎◌, ℕ, ◌/◌, ◌%◌, ◌<◌, ◌≤◌, Bool, true, cond, nat_lt, nat_eq, List, [], ◌++◌, Option, Some, None, IfSome, refl, sym, ap, ◌∙◌, subst, inl, inr, arith, append-nil, append_assoc}
+use Rattle.std.proofs.Common.{◌≡◌, ◌⊎◌, ℕ, ◌/◌, ◌%◌, ◌<◌, ◌≤◌, Bool, true, false, cond, nat_lt, nat_eq, List, [], ◌++◌, Option, Some, None, IfSome, refl, sym, ap, ◌∙◌, subst, inl, inr, arith, append-nil, append_assoc}
 use Rattle.std.proofs.lemmas.Bool.{cases_lt, lt-ltb, le-ltb}
 use Rattle.spec_map.specs.Map.{Pairs, lookup, Rises}
 use Rattle.spec_map.proofs.JoinLaws.{Rises-append, lookup-append_left, lookup-append_right}
 use Rattle.share_rule.specs.History.{Entry, StartsWith, IsHistory}
+use Rattle.live_layout.specs.Order.{IsFrom}
 use Rattle.live_nodes.specs.Seats.{SeatView}
 use Rattle.live_law.specs.Views.{View}
 use Rattle.live_scans.specs.Scans.{Moment, IsBetween, HasRead}
-use Rattle.live_scans.specs.inner.Moments.{SeesMore, HasNone, ReadsOn}
+use Rattle.live_scans.specs.inner.Moments.{SeesMore, HasNone, Reads}
 
 abbrev Seen : Type 0
 Seen = SeatView View
@@ -53,78 +54,100 @@ pub nothing_read : (up : Bool) (old : History) (low high : ℕ) → high ≤ low
 nothing_read up old low high none = nothing_between up old old low high none
 
 -- OF FEWER
-pub shrunk : (old new : History) (low high high' : ℕ) (ps : Pairs ℕ) → HasRead true old new low high ps → high' ≤ high → Rises low high' ps → HasRead true old new low high' ps
-shrunk old new low high high' ps r less rises = record {
+pub shrunk : (up : Bool) (old new : History) (low high low' high' : ℕ) (ps : Pairs ℕ) → HasRead up old new low high ps → low ≤ low' → high' ≤ high → Rises low' high' ps → HasRead up old new low' high' ps
+shrunk up old new low high low' high' ps r from to rises = record {
   moment = r.moment;
-  between = λ k l h. r.between k l (omega (arith, h, less));
-  value = λ k l h. r.value k l (omega (arith, h, less));
-  order = λ j k lj hj lk hk o. r.order j k lj (omega (arith, hj, less)) lk (omega (arith, hk, less)) o;
-  leaf = λ j k lj hj lk hk e. r.leaf j k lj (omega (arith, hj, less)) lk (omega (arith, hk, less)) e;
+  between = λ k l h. r.between k (omega (arith, l, from)) (omega (arith, h, to));
+  value = λ k l h. r.value k (omega (arith, l, from)) (omega (arith, h, to));
+  order = λ j k lj hj lk hk o. r.order j k (omega (arith, lj, from)) (omega (arith, hj, to)) (omega (arith, lk, from)) (omega (arith, hk, to)) o;
+  leaf = λ j k lj hj lk hk e. r.leaf j k (omega (arith, lj, from)) (omega (arith, hj, to)) (omega (arith, lk, from)) (omega (arith, hk, to)) e;
   ascend = rises;
 }
 
--- ONE AFTER THE OTHER, where a leaf ends or nothing was read before
-module _ (old mid new : History) (low m high : ℕ) (xs ys : Pairs ℕ) (r : HasRead true old mid low m xs) (s : HasRead true mid new m high ys) (first : StartsWith mid old) (then : StartsWith new mid) (from : low ≤ m) (to : m ≤ high) (seam : (m % 256 ≡ 0) ⊎ (low ≡ m)) where
+-- TWO RANGES side by side, of which one was read after the other: no leaf has keys of both
+module _ (up : Bool) (old new : History) (low m high : ℕ) (ps qs : Pairs ℕ) (o₁ n₁ o₂ n₂ : History) (r : HasRead up o₁ n₁ low m ps) (s : HasRead up o₂ n₂ m high qs) (begins₁ : StartsWith o₁ old) (ends₁ : StartsWith new n₁) (begins₂ : StartsWith o₂ old) (ends₂ : StartsWith new n₂) (from : low ≤ m) (to : m ≤ high)
+    (apart : (j k : ℕ) → low ≤ j → j < m → m ≤ k → k < high → j / 256 ≡ k / 256 → ⊥)
+    (later : (j k : ℕ) → low ≤ j → j < m → m ≤ k → k < high → IsFrom up j k → StartsWith (s.moment k).history (r.moment j).history)
+    (sooner : (j k : ℕ) → low ≤ k → k < m → m ≤ j → j < high → IsFrom up j k → StartsWith (r.moment k).history (s.moment j).history) where
   moment_of : ℕ → Moment
   moment_of k = cond (nat_lt k m) (r.moment k) (s.moment k)
 
-  is_left : (k : ℕ) → k < m → moment_of k ≡ r.moment k
+  is_low : (k : ℕ) → k < m → moment_of k ≡ r.moment k
   unfolding moment_of
-  is_left k l = ap (λ (b : Bool). cond b (r.moment k) (s.moment k)) (lt-ltb k m l)
+  is_low k l = ap (λ (b : Bool). cond b (r.moment k) (s.moment k)) (lt-ltb k m l)
 
-  is_right : (k : ℕ) → m ≤ k → moment_of k ≡ s.moment k
+  is_high : (k : ℕ) → m ≤ k → moment_of k ≡ s.moment k
   unfolding moment_of
-  is_right k l = ap (λ (b : Bool). cond b (r.moment k) (s.moment k)) (le-ltb k m l)
+  is_high k l = ap (λ (b : Bool). cond b (r.moment k) (s.moment k)) (le-ltb k m l)
 
-  not_split : (j k : ℕ) → low ≤ j → j < m → m ≤ k → j / 256 ≡ k / 256 → ⊥
-  not_split j k lj hj lk e = elim seam [ inl whole ↦ omega (arith, hj, lk, e, whole) | inr none ↦ omega (arith, lj, hj, none) ]
+  -- as their moments are, so are these
+  moved : (j k : ℕ) (x y : Moment) → moment_of j ≡ x → moment_of k ≡ y → StartsWith y.history x.history → StartsWith (moment_of k).history (moment_of j).history
+  moved j k x y first then = subst (λ (z : Moment × Moment). StartsWith z.0.history z.1.history) (λ i. (sym then i, sym first i))
 
-  pub joined_reads : HasRead true old new low high (xs ++ ys)
-  joined_reads = record {
+  pub joined : HasRead up old new low high (ps ++ qs)
+  joined = record {
     moment = moment_of;
     between = λ k l h.
         elim (cases_lt k m) [
-          | inl left ↦ let b = r.between k l left in subst (IsBetween old new) (sym (is_left k left)) (b.0, b.1, starts_then (r.moment k).history mid new b.2 then)
-          | inr right ↦ let b = s.between k right h in subst (IsBetween old new) (sym (is_right k right)) (b.0, starts_then old mid (s.moment k).history first b.1, b.2)
+          | inl left ↦ let b = r.between k l left in subst (IsBetween old new) (sym (is_low k left)) (b.0, starts_then old o₁ (r.moment k).history begins₁ b.1, starts_then (r.moment k).history n₁ new b.2 ends₁)
+          | inr right ↦ let b = s.between k right h in subst (IsBetween old new) (sym (is_high k right)) (b.0, starts_then old o₂ (s.moment k).history begins₂ b.1, starts_then (s.moment k).history n₂ new b.2 ends₂)
         ];
     value = λ k l h.
         elim (cases_lt k m) [
-          | inl left ↦ lookup-append_left m high xs ys k s.ascend left ∙ (r.value k l left ∙ ap (λ (z : Moment). lookup z.pairs k) (sym (is_left k left)))
-          | inr right ↦ lookup-append_right low m xs ys k r.ascend right ∙ (s.value k right h ∙ ap (λ (z : Moment). lookup z.pairs k) (sym (is_right k right)))
+          | inl left ↦ lookup-append_left m high ps qs k s.ascend left ∙ (r.value k l left ∙ ap (λ (z : Moment). lookup z.pairs k) (sym (is_low k left)))
+          | inr right ↦ lookup-append_right low m ps qs k r.ascend right ∙ (s.value k right h ∙ ap (λ (z : Moment). lookup z.pairs k) (sym (is_high k right)))
         ];
     order = λ j k lj hj lk hk o.
         elim (cases_lt j m) [
-          | inl j_left ↦
+          | inl j_low ↦
               elim (cases_lt k m) [
-                | inl k_left ↦ subst (λ (z : Moment × Moment). StartsWith z.0.history z.1.history) (λ i. (sym (is_left k k_left) i, sym (is_left j j_left) i)) (r.order j k lj j_left lk k_left o)
-                | inr k_right ↦ subst (λ (z : Moment × Moment). StartsWith z.0.history z.1.history) (λ i. (sym (is_right k k_right) i, sym (is_left j j_left) i)) (starts_then (r.moment j).history mid (s.moment k).history (r.between j lj j_left).2 (s.between k k_right hk).1)
+                | inl k_low ↦ moved j k (r.moment j) (r.moment k) (is_low j j_low) (is_low k k_low) (r.order j k lj j_low lk k_low o)
+                | inr k_high ↦ moved j k (r.moment j) (s.moment k) (is_low j j_low) (is_high k k_high) (later j k lj j_low k_high hk o)
               ]
-          | inr j_right ↦
-              let k_right : m ≤ k = omega (arith, j_right, o) in
-              subst (λ (z : Moment × Moment). StartsWith z.0.history z.1.history) (λ i. (sym (is_right k k_right) i, sym (is_right j j_right) i)) (s.order j k j_right hj k_right hk o)
+          | inr j_high ↦
+              elim (cases_lt k m) [
+                | inl k_low ↦ moved j k (s.moment j) (r.moment k) (is_high j j_high) (is_low k k_low) (sooner j k lk k_low j_high hj o)
+                | inr k_high ↦ moved j k (s.moment j) (s.moment k) (is_high j j_high) (is_high k k_high) (s.order j k j_high hj k_high hk o)
+              ]
         ];
     leaf = λ j k lj hj lk hk e.
         elim (cases_lt j m) [
-          | inl j_left ↦
+          | inl j_low ↦
               elim (cases_lt k m) [
-                | inl k_left ↦ is_left j j_left ∙ (r.leaf j k lj j_left lk k_left e ∙ sym (is_left k k_left))
-                | inr k_right ↦ absurd (not_split j k lj j_left k_right e)
+                | inl k_low ↦ is_low j j_low ∙ (r.leaf j k lj j_low lk k_low e ∙ sym (is_low k k_low))
+                | inr k_high ↦ absurd (apart j k lj j_low k_high hk e)
               ]
-          | inr j_right ↦
+          | inr j_high ↦
               elim (cases_lt k m) [
-                | inl k_left ↦ absurd (not_split k j lk k_left j_right (sym e))
-                | inr k_right ↦ is_right j j_right ∙ (s.leaf j k j_right hj k_right hk e ∙ sym (is_right k k_right))
+                | inl k_low ↦ absurd (apart k j lk k_low j_high hj (sym e))
+                | inr k_high ↦ is_high j j_high ∙ (s.leaf j k j_high hj k_high hk e ∙ sym (is_high k k_high))
               ]
         ];
-    ascend = Rises-append low m high xs ys from to r.ascend s.ascend;
+    ascend = Rises-append low m high ps qs from to r.ascend s.ascend;
   }
 
+-- ONE AFTER THE OTHER, where a leaf ends or nothing was read before: the lower keys first
+pub joined_up : (old mid new : History) (low m high : ℕ) (ps qs : Pairs ℕ) → HasRead true old mid low m ps → HasRead true mid new m high qs → StartsWith mid old → StartsWith new mid → low ≤ m → m ≤ high → (m % 256 ≡ 0) ⊎ (low ≡ m) → HasRead true old new low high (ps ++ qs)
+joined_up old mid new low m high ps qs r s first then from to seam =
+    joined true old new low m high ps qs old mid mid new r s (starts_same old) then first (starts_same new) from to
+    (λ j k lj hj lk hk e. elim seam [ inl whole ↦ omega (arith, hj, lk, e, whole) | inr none ↦ omega (arith, lj, hj, none) ])
+    (λ j k lj hj lk hk o. starts_then (r.moment j).history mid (s.moment k).history (r.between j lj hj).2 (s.between k lk hk).1)
+    (λ j k lk hk lj hj o. absurd (omega (arith, hk, lj, o)))
+
+-- or the upper ones
+pub joined_down : (old mid new : History) (low m high : ℕ) (ps qs : Pairs ℕ) → HasRead false old mid m high qs → HasRead false mid new low m ps → StartsWith mid old → StartsWith new mid → low ≤ m → m ≤ high → (m % 256 ≡ 0) ⊎ (m ≡ high) → HasRead false old new low high (ps ++ qs)
+joined_down old mid new low m high ps qs r s first then from to seam =
+    joined false old new low m high ps qs mid new old mid s r first (starts_same new) (starts_same old) then from to
+    (λ j k lj hj lk hk e. elim seam [ inl whole ↦ omega (arith, hj, lk, e, whole) | inr none ↦ omega (arith, lk, hk, none) ])
+    (λ j k lj hj lk hk o. absurd (omega (arith, hj, lk, o)))
+    (λ j k lk hk lj hj o. starts_then (r.moment j).history mid (s.moment k).history (r.between j lj hj).2 (s.between k lk hk).1)
+
 -- THE SEAT read on where none is.
-pub none_read : (id : ℕ) (v w : Seen) (Is : ℕ → Type 0) (low high : ℕ) → HasNone id v w Is → ((k : ℕ) → low ≤ k → k < high → Is k) → ReadsOn id v w low high []
-none_read id v w Is low high n all = record {
+pub none_read : (up : Bool) (id : ℕ) (v w : Seen) (Is : ℕ → Type 0) (low high : ℕ) → HasNone id v w Is → ((k : ℕ) → low ≤ k → k < high → Is k) → Reads up id v w low high []
+none_read up id v w Is low high n all = record {
   fits = n.fits;
   legal = (n.pairs, n.legal);
-  read = one_moment true v.client.seen w.client.seen n.pairs low high [] n.fits.begins n.legal tt (λ k l h. sym (n.none k (all k l h)));
+  read = one_moment up v.client.seen w.client.seen n.pairs low high [] n.fits.begins n.legal tt (λ k l h. sym (n.none k (all k l h)));
 }
 
 -- FROM AN EARLIER HISTORY ON
@@ -150,23 +173,32 @@ pub nones_since : (id : ℕ) (u v w : Seen) (Is : ℕ → ℕ → Type 0) (r : O
 nones_since id u v w Is None first h = tt
 nones_since id u v w Is (Some b) first h = none_since id u v w (Is b) first h
 
-pub reads_since : (id : ℕ) (u v w : Seen) (low high : ℕ) (ps : Pairs ℕ) → SeesMore v.client.seen id u.client.seen → ReadsOn id v w low high ps → ReadsOn id u w low high ps
-reads_since id u v w low high ps first r = record {
-  fits = more_then id u.client.seen v.client.seen w.client.seen first r.fits;
+pub reads_since : (up : Bool) (c id : ℕ) (u v w : Seen) (low high : ℕ) (ps : Pairs ℕ) → c ≡ id → SeesMore v.client.seen id u.client.seen → Reads up c v w low high ps → Reads up id u w low high ps
+reads_since up c id u v w low high ps is first r = record {
+  fits = more_then id u.client.seen v.client.seen w.client.seen first (subst (λ (z : ℕ). SeesMore w.client.seen z v.client.seen) is r.fits);
   legal = r.legal;
-  read = read_since true u.client.seen v.client.seen w.client.seen low high ps first.begins r.read;
+  read = read_since up u.client.seen v.client.seen w.client.seen low high ps first.begins r.read;
 }
 
-pub reads_fewer : (id : ℕ) (v w : Seen) (low high high' : ℕ) (ps : Pairs ℕ) → ReadsOn id v w low high ps → high' ≤ high → Rises low high' ps → ReadsOn id v w low high' ps
-reads_fewer id v w low high high' ps r less rises = record {
+pub reads_fewer : (up : Bool) (id : ℕ) (v w : Seen) (low high low' high' : ℕ) (ps : Pairs ℕ) → Reads up id v w low high ps → low ≤ low' → high' ≤ high → Rises low' high' ps → Reads up id v w low' high' ps
+reads_fewer up id v w low high low' high' ps r from to rises = record {
   fits = r.fits;
   legal = r.legal;
-  read = shrunk v.client.seen w.client.seen low high high' ps r.read less rises;
+  read = shrunk up v.client.seen w.client.seen low high low' high' ps r.read from to rises;
 }
 
-pub reads_then : (id : ℕ) (u v w : Seen) (low m high : ℕ) (xs ys : Pairs ℕ) → SeesMore v.client.seen id u.client.seen → HasRead true u.client.seen v.client.seen low m xs → ReadsOn id v w m high ys → low ≤ m → m ≤ high → (m % 256 ≡ 0) ⊎ (low ≡ m) → ReadsOn id u w low high (xs ++ ys)
-reads_then id u v w low m high xs ys first r s from to seam = record {
-  fits = more_then id u.client.seen v.client.seen w.client.seen first s.fits;
-  legal = s.legal;
-  read = joined_reads u.client.seen v.client.seen w.client.seen low m high xs ys r s.read first.begins s.fits.begins from to seam;
-}
+pub reads_then : (c id : ℕ) (u v w : Seen) (low m high : ℕ) (ps qs : Pairs ℕ) → c ≡ id → SeesMore v.client.seen id u.client.seen → HasRead true u.client.seen v.client.seen low m ps → Reads true c v w m high qs → low ≤ m → m ≤ high → (m % 256 ≡ 0) ⊎ (low ≡ m) → Reads true id u w low high (ps ++ qs)
+reads_then c id u v w low m high ps qs is first r s from to seam =
+    let fits = subst (λ (z : ℕ). SeesMore w.client.seen z v.client.seen) is s.fits in record {
+      fits = more_then id u.client.seen v.client.seen w.client.seen first fits;
+      legal = s.legal;
+      read = joined_up u.client.seen v.client.seen w.client.seen low m high ps qs r s.read first.begins fits.begins from to seam;
+    }
+
+pub reads_down_then : (c id : ℕ) (u v w : Seen) (low m high : ℕ) (ps qs : Pairs ℕ) → c ≡ id → SeesMore v.client.seen id u.client.seen → HasRead false u.client.seen v.client.seen m high qs → Reads false c v w low m ps → low ≤ m → m ≤ high → (m % 256 ≡ 0) ⊎ (m ≡ high) → Reads false id u w low high (ps ++ qs)
+reads_down_then c id u v w low m high ps qs is first r s from to seam =
+    let fits = subst (λ (z : ℕ). SeesMore w.client.seen z v.client.seen) is s.fits in record {
+      fits = more_then id u.client.seen v.client.seen w.client.seen first fits;
+      legal = s.legal;
+      read = joined_down u.client.seen v.client.seen w.client.seen low m high ps qs r s.read first.begins fits.begins from to seam;
+    }

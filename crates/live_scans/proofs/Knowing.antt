@@ -17,7 +17,7 @@ use Rattle.live_scans.specs.inner.Moments.{SeesMore}
 use Rattle.live_scans.proofs.Composed.{starts_then}
 use Rattle.live_scans.proofs.Pages.{begun_by}
 use Rattle.live_scans.specs.Counts.{HasCounted}
-use Rattle.live_scans.specs.inner.LeafSteps.{Counts}
+use Rattle.live_scans.specs.inner.Steps.{Counts}
 
 abbrev Seen : Type 0
 Seen = SeatView View

@@ -7,10 +7,9 @@ pub mod Pages
 pub mod Nexts
 pub mod Afters
 pub mod Leasts
-pub mod Joints
 pub mod Firsts
-pub mod Downs
 pub mod Behinds
-pub mod Ends
-pub mod LeafSteps
+pub mod Counting
 pub mod Knowing
+pub mod Lists
+pub mod PagesDown

@@ -1,5 +1,5 @@
 -- What a node shows of keys that aren't there, and of those of a leaf.
-use Rattle.std.proofs.Common.{◌≡◌, ◌≢◌, ℕ, zero, suc, ◌+◌, ◌-◌, ◌*◌, ◌/◌, ◌%◌, ◌<◌, ◌≤◌, true, List, Option, Some, None, refl, sym, ap, ◌∙◌, subst, arith}
+use Rattle.std.proofs.Common.{◌≡◌, ◌≢◌, ℕ, zero, suc, ◌+◌, ◌-◌, ◌*◌, ◌/◌, ◌%◌, ◌<◌, ◌≤◌, Bool, true, false, cond, List, Option, Some, None, refl, sym, ap, ◌∙◌, subst, arith}
 use Rattle.spec_map.specs.Map.{Pairs, lookup, Rises}
 use Rattle.spec_node.specs.TableNode.{Child}
 use Rattle.spec_node.specs.declared.child.Child.TheVariants.{Payload, Node as Below}
@@ -14,7 +14,8 @@ use Rattle.live_law.specs.Tree.{IsOfKind}
 use Rattle.live_law.proofs.Plans.{bytes_above-key, joined, digit-low}
 use Rattle.live_reads.specs.Paths.{Names}
 use Rattle.live_reads.specs.Mismatches.{IsMismatched, IsAside}
-use Rattle.live_scans.specs.inner.Moments.{HasUnder, IsRead, HasNone, IsWithin, IsBeside, ReadsOn}
+use Rattle.live_scans.specs.inner.Moments.{HasUnder, IsRead, HasNone, IsWithin, IsBeside, Reads}
+use Rattle.live_scans.specs.inner.Directions.{low_of, high_of}
 use Rattle.live_scans.proofs.Uppers.{up-rises}
 use Rattle.live_scans.proofs.Composed.{one_moment}
 
@@ -93,18 +94,24 @@ value_at id v w name base from to n word saw x whole small high k lk hk =
     let under : HasUnder v.client n.spot.number word x.pairs k (lookup x.node.its.children b) = subst (λ (z : ℕ). HasUnder v.client n.spot.number word x.pairs k (lookup x.node.its.children z)) (ap (λ (z : ℕ). digit z k) n.high ∙ dig) (x.under k covers) in
     leaf_value v.client n.spot.number word x.pairs k (lookup x.node.its.children b) kind under
 
-pub leaf_reads : (id : ℕ) (v w : Seen) (name base from to : ℕ) (n : Names v name (base + from) 1) (word : ℕ) (saw : List (ℕ × ℕ)) (x : IsRead id v.client n.spot n.spot.shape word saw w.client) (ps : Pairs ℕ) → base % 256 ≡ 0 → from ≤ to → to ≤ 255 → AreListed x.node.its base from (to + 1) ps → ReadsOn id v w (base + from) (base + to + 1) ps
-leaf_reads id v w name base from to n word saw x ps whole low high listed = record {
+pub leaf_reads : (up : Bool) (id : ℕ) (v w : Seen) (name base first from to : ℕ) (n : Names v name (base + first) 1) (word : ℕ) (saw : List (ℕ × ℕ)) (x : IsRead id v.client n.spot n.spot.shape word saw w.client) (ps : Pairs ℕ) → base % 256 ≡ 0 → first ≤ 255 → to ≤ 255 → AreListed x.node.its base from (to + 1) ps → Reads up id v w (base + from) (base + to + 1) ps
+leaf_reads up id v w name base first from to n word saw x ps whole low high listed = record {
   fits = x.fits;
   legal = (x.pairs, x.legal);
-  read = one_moment true v.client.seen w.client.seen x.pairs (base + from) (base + to + 1) ps x.fits.begins x.legal
+  read = one_moment up v.client.seen w.client.seen x.pairs (base + from) (base + to + 1) ps x.fits.begins x.legal
       (subst (λ (z : ℕ). Rises (base + from) z ps) (let e : base + (to + 1) ≡ base + to + 1 = omega arith in e) listed.ascend)
       (λ k lk hk.
       let b : ℕ = k - base in
       let is : base + b ≡ k = omega (arith, lk) in
-      let value = value_at id v w name base from to n word saw x whole (omega (arith, low, high)) high k (omega (arith, lk)) hk in
+      let value = value_at id v w name base first to n word saw x whole low high k (omega (arith, lk)) hk in
       subst (λ (z : ℕ). lookup ps z ≡ lookup x.pairs k) is (listed.value b (omega (arith, lk, is)) (omega (arith, hk, is)) ∙ value));
 }
+
+-- a part of the leaf, up to where it was read in that direction
+pub part_reads : (up : Bool) (id : ℕ) (v w : Seen) (name base first last reached : ℕ) (n : Names v name (base + first) 1) (word : ℕ) (saw : List (ℕ × ℕ)) (x : IsRead id v.client n.spot n.spot.shape word saw w.client) (ps : Pairs ℕ) → base % 256 ≡ 0 → first ≤ last → last ≤ 255 → reached ≤ last → AreListed x.node.its base (cond up first reached) (cond up (reached + 1) (last + 1)) ps
+    → Reads up id v w (low_of up (base + cond up first last) (base + reached)) (high_of up (base + cond up first last) (base + reached)) ps
+part_reads true id v w name base first last reached n word saw x ps whole order high within listed = leaf_reads true id v w name base first first reached n word saw x ps whole (omega (arith, order, high)) (omega (arith, within, high)) listed
+part_reads false id v w name base first last reached n word saw x ps whole order high within listed = leaf_reads false id v w name base first reached last n word saw x ps whole (omega (arith, order, high)) high listed
 
 -- RANGES of keys
 within : (h key last b k : ℕ) → b < 256 → up h last ≡ 256 * up (suc h) key + b → key ≤ k → k ≤ last → IsWithin (suc h) key b k

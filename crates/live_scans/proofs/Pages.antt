@@ -45,10 +45,6 @@ begun_on k b b₁ c c₁ v w book caller h more = record {
   };
 }
 
--- as guards know it
-pub same_known : (b b₁ : Book) (c c₁ : ℕ) (u v : Seen) → b₁ ≡ b → c₁ ≡ c → v.client.seen ≡ u.client.seen → known_of b₁ c₁ v ≡ known_of b c u
-same_known b b₁ c c₁ u v book caller seen = λ i. record { book = book i; caller = caller i; seen = seen i }
-
 pub begun_book : (k n : Known) → HasBegun k n → n.book ≡ k.book
 begun_book k n h = h.later.book ∙ h.begun.book
 
@@ -67,21 +63,21 @@ waited_busy k m n (Ok a) h fails g = absurd (let e : false ≡ true = fails in c
 waited_busy k m n (Err e) h fails g = waited_more k m n h g
 
 -- A PAGE
-pub page_seat : (b b₁ b₂ : Book) (c c₁ c₂ : ℕ) (u v w : Seen) (key limit count last : ℕ) (buffer : List (ℕ × ℕ)) → b₁ ≡ b → c₁ ≡ c → b₂ ≡ b₁ → c₂ ≡ c₁ → Begins c u.client.seen v.client.seen → SeesMore w.client.seen c₁ v.client.seen → IsPage c₁ v w key limit buffer count last
+pub less : (n : ℕ) (xs : List (ℕ × ℕ)) → length (take n xs) < length xs → n < length xs
+less zero xs l = l
+less (suc n) [] l = absurd (omega (arith, l))
+less (suc n) (x ∷ xs) l = let r = less n xs (omega (arith, l)) in omega (arith, r)
+
+pub page_seat : (b b₁ b₂ : Book) (c c₁ c₂ : ℕ) (u v w : Seen) (key limit count last : ℕ) (buffer : List (ℕ × ℕ)) → b₁ ≡ b → c₁ ≡ c → b₂ ≡ b₁ → c₂ ≡ c₁ → Begins c u.client.seen v.client.seen → SeesMore w.client.seen c₁ v.client.seen → IsPage true c₁ v w key limit buffer count last
     → HasPage (known_of b c u) key (limit + 1) (length buffer) (take count buffer) (known_of b₂ c₂ w)
 page_seat b b₁ b₂ c c₁ c₂ u v w key limit count last buffer book caller book₂ caller₂ begins more p =
-    let high = p.high in record {
+    let high = p.within in record {
       seen = begun_by b b₁ b₂ c c₁ c₂ u v w book caller book₂ caller₂ begins more;
       end = last + 1;
       inside = omega (arith, high);
       whole = λ l. ap (λ (z : ℕ). z + 1) (p.whole (less count buffer l));
       read = p.reads.read;
     }
-  where
-    less : (n : ℕ) (xs : List (ℕ × ℕ)) → length (take n xs) < length xs → n < length xs
-    less zero xs l = l
-    less (suc n) [] l = absurd (omega (arith, l))
-    less (suc n) (x ∷ xs) l = let r = less n xs (omega (arith, l)) in omega (arith, r)
 
 -- of no keys, and into no room
 pub page_crossed : (k n : Known) (low high room : ℕ) → high ≤ low → HasBegun k n → HasPage k low high room [] n
@@ -121,7 +117,7 @@ next_none k n low l count none p =
     let q : HasPage k low (2 ^ 64) 1 [] n = subst (λ (z : ℕ). HasPage k low (2 ^ 64) 1 (take z l) n) none p in
     (q.seen, subst (λ (z : ℕ). HasRead true q.seen.start.seen n.seen low z []) (q.whole (omega arith)) q.read)
 
-take-one : (l : List (ℕ × ℕ)) (count : ℕ) (d : ℕ × ℕ) → length l ≡ 1 → count ≢ 0 → take count l ≡ get_or l 0 d ∷ []
+pub take-one : (l : List (ℕ × ℕ)) (count : ℕ) (d : ℕ × ℕ) → length l ≡ 1 → count ≢ 0 → take count l ≡ get_or l 0 d ∷ []
 take-one [] count d one some = absurd (omega (arith, one))
 take-one (x ∷ []) zero d one some = absurd (some refl)
 take-one (x ∷ []) (suc zero) d one some = refl
@@ -132,7 +128,7 @@ pub next_some : (k n : Known) (low : ℕ) (l : List (ℕ × ℕ)) (count : ℕ) 
 next_some k n low l count d x one some is p =
     let q : HasPage k low (2 ^ 64) 1 (x ∷ []) n = subst (λ (ps : Pairs ℕ). HasPage k low (2 ^ 64) 1 ps n) (take-one l count d one some ∙ ap (λ (z : ℕ × ℕ). z ∷ []) is) p in
     let rises = q.read.ascend in
-    (q.seen, shrunk q.seen.start.seen n.seen low q.end (x.0 + 1) (x ∷ []) q.read (omega (arith, rises)) (rises.0, omega arith, tt))
+    (q.seen, shrunk true q.seen.start.seen n.seen low q.end low (x.0 + 1) (x ∷ []) q.read (omega arith) (omega (arith, rises)) (rises.0, omega arith, tt))
 
 pub next_beyond : (k n : Known) (low : ℕ) → low ≡ 2 ^ 64 → HasBegun k n → HasNext k low None n
 next_beyond k n low is h = (h, nothing_between true h.start.seen n.seen low (2 ^ 64) (omega (arith, is)))

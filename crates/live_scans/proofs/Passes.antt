@@ -1,24 +1,35 @@
--- Steps of a reader, from an earlier view on.
-use Rattle.std.proofs.Common.{◌≡◌, ◌≢◌, ◌⊎◌, ℕ, ◌+◌, ◌%◌, ◌<◌, ◌≤◌, Bool, true, false, List, [], ◌++◌, length, take, drop, Option, Some, None, refl, sym, ap, ◌∙◌, subst, arith}
+-- Steps of a reader, from an earlier view on, and its pages.
+use Rattle.std.proofs.Common.{◌≡◌, ◌≢◌, ◌⊎◌, ℕ, ◌+◌, ◌-◌, ◌%◌, ◌<◌, ◌≤◌, Bool, true, false, cond, List, [], ◌++◌, length, take, drop, reverse, Option, Some, None, refl, sym, ap, ◌∙◌, subst, inl, inr, arith}
 use mathlib.Core.Logic.{dite}
 use native.Mathlib.Decide.{ℕ_discrete}
-use Rattle.std.proofs.lemmas.List.{take-append-drop, take-take}
-use Rattle.spec_map.specs.Map.{Pairs}
+use Rattle.std.proofs.lemmas.List.{take-append-drop, take-take, reverse-append, length-drop, length-take-le, length-reverse}
+use Rattle.spec_map.specs.Map.{Pairs, Rises}
+use Rattle.spec_map.proofs.ByteMapLaws.{length-from_Rises}
 use Rattle.share_rule.specs.History.{Entry}
+use Rattle.word_book.specs.Book.{Book}
 use Rattle.live_nodes.specs.Seats.{SeatView}
+use Rattle.live_layout.specs.Order.{IsFrom, IsBefore}
 use Rattle.live_law.specs.Views.{View, Ask}
 use Rattle.live_reads.specs.Paths.{Ended, Keeps}
 use Rattle.live_reads.specs.Sees.{Follows}
 use Rattle.live_reads.specs.declared.prefix_match.Next.{Next}
 use Rattle.live_reads.specs.declared.prefix_match.Next.TheVariants as nexts
+use Rattle.live_reads.proofs.Finds.{keeps_then}
 use Rattle.live_layout.proofs.PageLaws.{filled_none}
 use Rattle.live_scans.specs.Scans.{HasRead}
-use Rattle.live_scans.specs.inner.Moments.{SeesMore, IsPassed, ReadsOn}
+use Rattle.live_scans.specs.inner.Directions.{low_of, high_of, EndsLeaf, IsNextKey, ascending}
+use Rattle.live_scans.specs.inner.Moments.{SeesMore, IsPassed, Reads}
 use Rattle.live_scans.specs.inner.Steps.{IsStep}
-use Rattle.live_scans.proofs.Composed.{more_same, more_then, reads_since, reads_fewer, reads_then}
+use Rattle.live_scans.specs.inner.Stops.{IsAtLeaf, Reaches}
+use Rattle.live_scans.specs.declared.seek.Reach.{Reach}
+use Rattle.live_scans.specs.declared.seek.Reach.TheVariants as reaches
+use Rattle.live_scans.proofs.Composed.{more_same, more_then, nothing_read, reads_since, reads_fewer, reads_then, reads_down_then}
 
 abbrev Seen : Type 0
 Seen = SeatView View
+
+abbrev History : Type 0
+History = List (Entry ℕ)
 
 pub keeps_same : (v : Seen) → Keeps v v
 keeps_same v = record { places = λ p h. h; met = λ a h. h; own = refl; holds = refl; room = refl }
@@ -29,58 +40,190 @@ seen_equal id u v e = subst (λ (h : List (Entry ℕ)). SeesMore h id u.client.s
 pub seen_since : (c id : ℕ) (u v w : Seen) → c ≡ id → SeesMore v.client.seen id u.client.seen → SeesMore w.client.seen c v.client.seen → SeesMore w.client.seen id u.client.seen
 seen_since c id u v w is first then = more_then id u.client.seen v.client.seen w.client.seen first (subst (λ (z : ℕ). SeesMore w.client.seen z v.client.seen) is then)
 
-pub passed_since : (c id : ℕ) (u v w : Seen) (key last : ℕ) → c ≡ id → SeesMore v.client.seen id u.client.seen → IsPassed c v w key last → IsPassed id u w key last
-passed_since c id u v w key last is first p = record {
-  low = p.low;
+pub passed_since : (up : Bool) (c id : ℕ) (u v w : Seen) (key to : ℕ) → c ≡ id → SeesMore v.client.seen id u.client.seen → IsPassed up c v w key to → IsPassed up id u w key to
+passed_since up c id u v w key to is first p = record {
+  order = p.order;
   seam = p.seam;
-  reads = reads_since id u v w key (last + 1) [] first (subst (λ (z : ℕ). ReadsOn z v w key (last + 1) []) is p.reads);
+  reads = reads_since up c id u v w (low_of up key to) (high_of up key to) [] is first p.reads;
 }
+
+-- WHAT STAYS: the seat is of the same map and caller, knows as much, and has seen more
+abbrev pub Stays : Book → Book → ℕ → ℕ → Seen → Seen → Type 0
+Stays b b₁ c c₁ u v = (b₁ ≡ b) × (c₁ ≡ c) × Keeps u v × SeesMore v.client.seen c u.client.seen
+
+pub stays_then : (b b₁ b₂ : Book) (c c₁ c₂ : ℕ) (u v w : Seen) → Stays b b₁ c c₁ u v → Stays b₁ b₂ c₁ c₂ v w → Stays b b₂ c c₂ u w
+stays_then b b₁ b₂ c c₁ c₂ u v w s t = (t.0 ∙ s.0, t.1 ∙ s.1, keeps_then u v w s.2 t.2, seen_since c₁ c u v w s.1 s.3 t.3)
 
 -- what is next on the path of a reader, which isn't a look-up
 pub follow_ends : (look : Bool) (q : Ask) (v w : Seen) (key height : ℕ) (o : Option Next) → look ≡ false → Follows (Ended look q None) v w key height o → o ≡ Some nexts.Ends → w.client.seen ≡ v.client.seen
 follow_ends look q v w key height o is f e = subst (λ (b : Bool). Ended b q None v w) is (subst (λ (z : Option Next). Follows (Ended look q None) v w key height z) e f)
 
+-- WHERE A PATH ENDS, by another key and from an earlier view on
+pub reaches_since : (up : Bool) (c id : ℕ) (u v w : Seen) (k key : ℕ) (r : Reach) → c ≡ id → k ≡ key → SeesMore v.client.seen id u.client.seen → Reaches up c v w k r → Reaches up id u w key r
+reaches_since true c id u v w k key (reaches.Past last) is same seen r = subst (λ (z : ℕ). IsPassed true id u w z last) same (passed_since true c id u v w k last is seen r)
+reaches_since false c id u v w k key (reaches.Past last) is same seen r = subst (λ (z : ℕ). IsPassed false id u w z last) same (passed_since false c id u v w k last is seen r)
+reaches_since true c id u v w k key (reaches.Leaf name first) is same seen r = let low = r.0 in (
+  omega (arith, low, same),
+  subst (λ (z : ℕ). (first % 256 ≡ 0) ⊎ (z ≡ first)) same r.1,
+  r.2,
+  subst (λ (z : ℕ). Reads true id u w z first []) same (reads_since true c id u v w k first [] is seen r.3),
+)
+reaches_since false c id u v w k key (reaches.Leaf name first) is same seen r = (r.0 ∙ same, r.1)
+
 -- THE STEPS OF A PAGE
-pub gap_step : (id : ℕ) (u w : Seen) (key limit start last l : ℕ) (buffer : List (ℕ × ℕ)) → IsPassed id u w key last → l ≤ last → l ≤ limit → (l < limit → l ≡ last) → key ≤ l → start < length buffer → IsStep id u w key limit start buffer start l
-gap_step id u w key limit start last l buffer p low high whole from room = record {
-  low = from;
-  high = high;
+-- no pair yet
+none_filled : (up : Bool) (l : List (ℕ × ℕ)) (start : ℕ) → start ≤ length l → [] ≡ ascending up (drop start (take start l))
+none_filled true l start low = sym (filled_none l start low)
+none_filled false l start low = sym (ap reverse (filled_none l start low))
+
+-- up to where keys are read
+reads_nearer : (up : Bool) (id : ℕ) (u w : Seen) (key last to : ℕ) → IsFrom up to last → Reads up id u w (low_of up key last) (high_of up key last) [] → Reads up id u w (low_of up key to) (high_of up key to) []
+reads_nearer true id u w key last to near r = reads_fewer true id u w key (last + 1) key (to + 1) [] r (omega arith) (omega (arith, near)) tt
+reads_nearer false id u w key last to near r = reads_fewer false id u w last (key + 1) to (key + 1) [] r near (omega arith) tt
+
+between : (up : Bool) (key last limit to : ℕ) → IsFrom up key last → IsFrom up key limit → (to ≡ last) ⊎ (to ≡ limit) → IsFrom up key to
+between up key last limit to from order is = elim is [ inl e ↦ subst (IsFrom up key) (sym e) from | inr e ↦ subst (IsFrom up key) (sym e) order ]
+
+pub gap_step : (up : Bool) (id : ℕ) (u w : Seen) (key limit start last to : ℕ) (buffer : List (ℕ × ℕ)) → IsPassed up id u w key last → IsFrom up key limit → IsFrom up to last → IsFrom up to limit → (to ≡ last) ⊎ (to ≡ limit) → start < length buffer → IsStep up id u w key limit start buffer start to
+gap_step up id u w key limit start last to buffer p order near within is room = record {
+  order = between up key last limit to p.order order is;
+  within = within;
   from = omega arith;
   few = omega (arith, room);
-  seam = λ left less. subst (λ (z : ℕ). (z + 1) % 256 ≡ 0) (sym (whole less)) p.seam;
-  reads = subst (λ (ps : Pairs ℕ). ReadsOn id u w key (l + 1) ps) (sym (filled_none buffer start (omega (arith, room)))) (reads_fewer id u w key (last + 1) (l + 1) [] p.reads (omega (arith, low)) tt);
+  small = omega arith;
+  seam = λ left ne. elim is [ inl e ↦ subst (EndsLeaf up) (sym e) p.seam | inr e ↦ absurd (ne e) ];
+  reads = subst (Reads up id u w (low_of up key to) (high_of up key to)) (none_filled up buffer start (omega (arith, room))) (reads_nearer up id u w key last to near p.reads);
 }
 
-pub leaf_step : (c id : ℕ) (u v w : Seen) (key limit start base first end count reached : ℕ) (buffer : List (ℕ × ℕ)) → c ≡ id → SeesMore v.client.seen id u.client.seen → base % 256 ≡ 0 → base + first ≡ key → base + end ≤ limit → (end ≢ 255 → base + end ≡ limit) → start ≤ count → count ≤ length buffer → first ≤ reached → reached ≤ end → (reached ≢ end → count ≡ length buffer)
-    → ReadsOn c v w (base + first) (base + reached + 1) (drop start (take count buffer)) → IsStep id u w key limit start buffer count (base + reached)
-leaf_step c id u v w key limit start base first end count reached buffer is seen whole begins high cut from few low within full reads = record {
-  low = omega (arith, begins, low);
-  high = omega (arith, high, within);
-  from = from;
-  few = few;
-  seam = λ left less.
-      dite (ℕ_discrete reached end)
-      (λ e. dite (ℕ_discrete end 255) (λ f. omega (arith, e, f, whole)) (λ ne. absurd (let x = cut ne in omega (arith, x, e, less))))
-      (λ ne. absurd (let x = full ne in omega (arith, x, left)));
-  reads = reads_since id u v w key (base + reached + 1) (drop start (take count buffer)) seen
-      (subst (λ (z : ℕ × ℕ). ReadsOn z.0 v w z.1 (base + reached + 1) (drop start (take count buffer))) (λ i. (is i, begins i)) reads);
+-- where the leaf is behind the limit
+pub cut_step : (up : Bool) (id : ℕ) (u w : Seen) (name key limit start first : ℕ) (buffer : List (ℕ × ℕ)) → IsFrom up key limit → IsBefore up limit first → start < length buffer → IsAtLeaf up id u w key name first → IsStep up id u w key limit start buffer start limit
+cut_step true id u w name key limit start first buffer low cut room r = record {
+  order = low;
+  within = omega arith;
+  from = omega arith;
+  few = omega (arith, room);
+  small = omega arith;
+  seam = λ left ne. absurd (ne refl);
+  reads = subst (Reads true id u w key (limit + 1)) (none_filled true buffer start (omega (arith, room))) (reads_fewer true id u w key first key (limit + 1) [] r.3 (omega arith) (omega (arith, cut)) tt);
 }
+cut_step false id u w name key limit start first buffer low cut room r = absurd (let e = r.0 in omega (arith, low, cut, e))
 
-pub step_since : (c id : ℕ) (u v w : Seen) (key limit start count last : ℕ) (buffer : List (ℕ × ℕ)) → c ≡ id → SeesMore v.client.seen id u.client.seen → IsStep c v w key limit start buffer count last → IsStep id u w key limit start buffer count last
-step_since c id u v w key limit start count last buffer is seen s = record {
-  low = s.low;
-  high = s.high;
+-- the last key of a part
+ends : (up : Bool) (base first last : ℕ) → base % 256 ≡ 0 → cond up last first ≡ cond up 255 0 → EndsLeaf up (base + cond up last first)
+ends true base first last whole e = omega (arith, whole, e)
+ends false base first last whole e = omega (arith, whole, e)
+
+part_order : (up : Bool) (base first last reached : ℕ) → first ≤ reached → reached ≤ last → IsFrom up (base + cond up first last) (base + reached) × IsFrom up (base + reached) (base + cond up last first)
+part_order true base first last reached low high = (omega (arith, low), omega (arith, high))
+part_order false base first last reached low high = (omega (arith, high), omega (arith, low))
+
+pub from_then : (up : Bool) (a b c : ℕ) → IsFrom up a b → IsFrom up b c → IsFrom up a c
+from_then true a b c x y = omega (arith, x, y)
+from_then false a b c x y = omega (arith, x, y)
+
+-- it has at most 256 pairs
+part_small : (up : Bool) (base first last reached start count : ℕ) (buffer : List (ℕ × ℕ)) → first ≤ reached → reached ≤ last → last ≤ 255 → count ≤ length buffer → Rises (low_of up (base + cond up first last) (base + reached)) (high_of up (base + cond up first last) (base + reached)) (ascending up (drop start (take count buffer))) → count ≤ start + 256
+part_small true base first last reached start count buffer low high byte few rises =
+    let ps = drop start (take count buffer) in
+    let most = length-from_Rises (base + first) (base + reached + 1) ps (omega (arith, low)) rises in
+    let long = length-drop start (take count buffer) in
+    let all = length-take-le count buffer few in
+    omega (arith, most, long, all, low, high, byte)
+part_small false base first last reached start count buffer low high byte few rises =
+    let ps = drop start (take count buffer) in
+    let most = length-from_Rises (base + reached) (base + last + 1) (reverse ps) (omega (arith, high)) rises in
+    let same = length-reverse ps in
+    let long = length-drop start (take count buffer) in
+    let all = length-take-le count buffer few in
+    omega (arith, most, same, long, all, low, high, byte)
+
+-- a part of a leaf
+pub leaf_step : (up : Bool) (c id : ℕ) (u v w : Seen) (key limit start base first last count reached : ℕ) (buffer : List (ℕ × ℕ)) → c ≡ id → SeesMore v.client.seen id u.client.seen → base % 256 ≡ 0 → base + cond up first last ≡ key → IsFrom up (base + cond up last first) limit → (cond up last first ≢ cond up 255 0 → base + cond up last first ≡ limit)
+    → start ≤ count → count ≤ length buffer → first ≤ reached → reached ≤ last → last ≤ 255 → (reached ≢ cond up last first → count ≡ length buffer)
+    → Reads up c v w (low_of up (base + cond up first last) (base + reached)) (high_of up (base + cond up first last) (base + reached)) (ascending up (drop start (take count buffer))) → IsStep up id u w key limit start buffer count (base + reached)
+leaf_step up c id u v w key limit start base first last count reached buffer is seen whole begins within cut from few low high byte full reads =
+    let order = part_order up base first last reached low high in record {
+      order = subst (λ (z : ℕ). IsFrom up z (base + reached)) begins order.0;
+      within = from_then up (base + reached) (base + cond up last first) limit order.1 within;
+      from = from;
+      few = few;
+      small = part_small up base first last reached start count buffer low high byte few reads.read.ascend;
+      seam = λ left ne.
+          dite (ℕ_discrete reached (cond up last first))
+          (λ e. dite (ℕ_discrete (cond up last first) (cond up 255 0))
+          (λ f. subst (λ (z : ℕ). EndsLeaf up (base + z)) (sym e) (ends up base first last whole f))
+          (λ other. absurd (ne (ap (λ (z : ℕ). base + z) e ∙ cut other))))
+          (λ other. absurd (let x = full other in omega (arith, x, left)));
+      reads = reads_since up c id u v w (low_of up key (base + reached)) (high_of up key (base + reached)) (ascending up (drop start (take count buffer))) is seen
+          (subst (λ (z : ℕ). Reads up c v w (low_of up z (base + reached)) (high_of up z (base + reached)) (ascending up (drop start (take count buffer)))) begins reads);
+    }
+
+pub step_since : (up : Bool) (c id : ℕ) (u v w : Seen) (key limit start count last : ℕ) (buffer : List (ℕ × ℕ)) → c ≡ id → SeesMore v.client.seen id u.client.seen → IsStep up c v w key limit start buffer count last → IsStep up id u w key limit start buffer count last
+step_since up c id u v w key limit start count last buffer is seen s = record {
+  order = s.order;
+  within = s.within;
   from = s.from;
   few = s.few;
+  small = s.small;
   seam = s.seam;
-  reads = reads_since id u v w key (last + 1) (drop start (take count buffer)) seen (subst (λ (z : ℕ). ReadsOn z v w key (last + 1) (drop start (take count buffer))) is s.reads);
+  reads = reads_since up c id u v w (low_of up key last) (high_of up key last) (ascending up (drop start (take count buffer))) is seen s.reads;
 }
 
--- a page that a step goes on with
-pub page_step : (c id : ℕ) (u v w : Seen) (key from limit start count last : ℕ) (old buffer : List (ℕ × ℕ)) → c ≡ id → SeesMore v.client.seen id u.client.seen → HasRead true u.client.seen v.client.seen key from (take start old) → take start buffer ≡ take start old → key ≤ from → (from % 256 ≡ 0) ⊎ (key ≡ from) → IsStep c v w from limit start buffer count last → ReadsOn id u w key (last + 1) (take count buffer)
-page_step c id u v w key from limit start count last old buffer is seen read same low seam s =
-    let reads : ReadsOn id v w from (last + 1) (drop start (take count buffer)) = subst (λ (z : ℕ). ReadsOn z v w from (last + 1) (drop start (take count buffer))) is s.reads in
-    let high = s.low in
+-- after keys at which there is nothing
+pub step_after : (up : Bool) (c id : ℕ) (u v w : Seen) (name key first limit start count last : ℕ) (buffer : List (ℕ × ℕ)) → c ≡ id → SeesMore v.client.seen id u.client.seen → IsAtLeaf up id u v key name first → IsStep up c v w first limit start buffer count last → IsStep up id u w key limit start buffer count last
+step_after true c id u v w name key first limit start count last buffer is seen r s =
+    let on = s.order in
+    let low = r.0 in record {
+      order = omega (arith, low, on);
+      within = s.within;
+      from = s.from;
+      few = s.few;
+      small = s.small;
+      seam = s.seam;
+      reads = reads_then c id u v w key first (last + 1) [] (drop start (take count buffer)) is seen r.3.read s.reads low (omega (arith, on)) r.1;
+    }
+step_after false c id u v w name key first limit start count last buffer is seen r s = subst (λ (z : ℕ). IsStep false id u w z limit start buffer count last) r.0 (step_since false c id u v w first limit start count last buffer is seen s)
+
+-- A PAGE
+-- so far: all keys before this one were read
+abbrev pub HasReadTo : Bool → History → History → ℕ → ℕ → Pairs ℕ → Type 0
+HasReadTo true old new key from pairs = HasRead true old new key from pairs
+HasReadTo false old new key from pairs = HasRead false old new (from + 1) (key + 1) (reverse pairs)
+
+-- a leaf begins with it, or no key was read yet
+abbrev pub BeginsLeaf : Bool → ℕ → ℕ → Type 0
+BeginsLeaf true key from = (from % 256 ≡ 0) ⊎ (key ≡ from)
+BeginsLeaf false key from = ((from + 1) % 256 ≡ 0) ⊎ (from + 1 ≡ key + 1)
+
+pub page_begins : (up : Bool) (h : History) (key : ℕ) (buffer : List (ℕ × ℕ)) → HasReadTo up h h key key (take 0 buffer) × BeginsLeaf up key key × IsFrom up key key
+page_begins true h key buffer = (nothing_read true h key key (omega arith), inr refl, omega arith)
+page_begins false h key buffer = (nothing_read false h (key + 1) (key + 1) (omega arith), inr refl, omega arith)
+
+-- a step goes on with it
+pub page_step : (up : Bool) (c id : ℕ) (u v w : Seen) (key from limit start count last : ℕ) (old buffer : List (ℕ × ℕ)) → c ≡ id → SeesMore v.client.seen id u.client.seen → HasReadTo up u.client.seen v.client.seen key from (take start old) → take start buffer ≡ take start old → IsFrom up key from → BeginsLeaf up key from → IsStep up c v w from limit start buffer count last → Reads up id u w (low_of up key last) (high_of up key last) (ascending up (take count buffer))
+page_step true c id u v w key from limit start count last old buffer is seen read same order seam s =
+    let on = s.order in
     let all : take start old ++ drop start (take count buffer) ≡ take count buffer =
     ap (λ (ps : Pairs ℕ). ps ++ drop start (take count buffer)) (sym (take-take start count buffer s.from ∙ same)) ∙ take-append-drop start (take count buffer) in
-    subst (ReadsOn id u w key (last + 1)) all (reads_then id u v w key from (last + 1) (take start old) (drop start (take count buffer)) seen read reads low (omega (arith, high)) seam)
+    subst (Reads true id u w key (last + 1)) all (reads_then c id u v w key from (last + 1) (take start old) (drop start (take count buffer)) is seen read s.reads order (omega (arith, on)) seam)
+page_step false c id u v w key from limit start count last old buffer is seen read same order seam s =
+    let on = s.order in
+    let ps = drop start (take count buffer) in
+    let parts : take start old ++ ps ≡ take count buffer =
+    ap (λ (xs : Pairs ℕ). xs ++ ps) (sym (take-take start count buffer s.from ∙ same)) ∙ take-append-drop start (take count buffer) in
+    let all : reverse ps ++ reverse (take start old) ≡ reverse (take count buffer) = sym (reverse-append (take start old) ps) ∙ ap reverse parts in
+    subst (Reads false id u w last (key + 1)) all (reads_down_then c id u v w last (from + 1) (key + 1) (reverse ps) (reverse (take start old)) is seen read s.reads (omega (arith, on)) (omega (arith, order)) seam)
+
+-- and it goes on behind the step
+pub page_on : (up : Bool) (id : ℕ) (u w : Seen) (key last next : ℕ) (pairs : Pairs ℕ) → IsFrom up key last → EndsLeaf up last → IsNextKey up last next → Reads up id u w (low_of up key last) (high_of up key last) (ascending up pairs) → HasReadTo up u.client.seen w.client.seen key next pairs × BeginsLeaf up key next × IsFrom up key next
+page_on true id u w key last next pairs order seam is r = (subst (λ (z : ℕ). HasRead true u.client.seen w.client.seen key z pairs) (sym is) r.read, inl (subst (λ (z : ℕ). z % 256 ≡ 0) (sym is) seam), omega (arith, order, is))
+page_on false id u w key last next pairs order seam is r = (subst (λ (z : ℕ). HasRead false u.client.seen w.client.seen z (key + 1) (reverse pairs)) is r.read, inl (subst (λ (z : ℕ). z % 256 ≡ 0) is seam), omega (arith, order, is))
+
+-- how many keys are left
+abbrev pub left : Bool → ℕ → ℕ → ℕ
+left true limit from = limit + 1 - from
+left false limit from = from + 1 - limit
+
+pub fewer_left : (up : Bool) (limit from last next : ℕ) → IsFrom up from last → IsFrom up last limit → last ≢ limit → IsNextKey up last next → left up limit next < left up limit from
+fewer_left true limit from last next order within ne is = omega (arith, order, within, ne, is)
+fewer_left false limit from last next order within ne is = omega (arith, order, within, ne, is)

@@ -1,4 +1,5 @@
 pub mod Scans
 pub mod Floors
+pub mod Descents
 pub mod Counts
 pub mod inner

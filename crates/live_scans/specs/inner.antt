@@ -1,8 +1,8 @@
+pub mod Directions
 pub mod Moments
 pub mod Steps
 pub mod Stops
 pub mod Nexts
 pub mod Afters
-pub mod Downs
-pub mod StopsDown
-pub mod LeafSteps
+pub mod Gaps
+pub mod Fills

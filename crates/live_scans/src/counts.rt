@@ -5,14 +5,14 @@ ghost use Rattle.live_reads.specs.Paths.{KnowsRootWord, Keeps};
 ghost use Rattle.live_scans.specs.Scans.{GaveUp};
 ghost use Rattle.live_scans.specs.Counts.{HasCounted, HasTested};
 ghost use Rattle.live_scans.specs.inner.Stops.{IsPosition};
-ghost use Rattle.live_scans.specs.inner.LeafSteps.{Counts};
+ghost use Rattle.live_scans.specs.inner.Steps.{Counts};
 
 pub mod laws;
-pub mod leaves;
 
-use crate::counts::leaves::step_on;
+use crate::page::{Bound, key_after, read_on};
+use crate::position::Position;
 use crate::scans::ceiling;
-use crate::seek::{Position, start};
+use crate::seek::start;
 use live_growth::map::{Busy, Congee, Guard};
 use live_reads::path::{Nodes, Seat};
 
@@ -21,23 +21,29 @@ fn count_all(nodes: &Nodes, position: Position, seat: &mut Seat) -> Option<u128>
     requires book { seat.old.book ≡ nodes.now }
     requires root_word { KnowsRootWord seat.old.view }
     requires position { IsPosition seat.old.view position }
-    ensures told { (seat.new.book ≡ seat.old.book) × (seat.new.id ≡ seat.old.id)
-        × Keeps seat.old.view seat.new.view
-        × SeesMore seat.new.view.client.seen seat.old.id seat.old.view.client.seen
-        × IfSome result (Counts seat.old.id seat.old.view seat.new.view) }
+    ensures book { seat.new.book ≡ seat.old.book }
+    ensures id { seat.new.id ≡ seat.old.id }
+    ensures keeps { Keeps seat.old.view seat.new.view }
+    ensures seen { SeesMore seat.new.view.client.seen seat.old.id seat.old.view.client.seen }
+    ensures counts { IfSome result (Counts seat.old.id seat.old.view seat.new.view) }
 {
-    let mut leaf = [(0u64, 0u64); 256];
+    // (one more than a leaf has, so each leaf is read as a whole)
+    let mut leaf = [(0u64, 0u64); 257];
+    let bound = Bound {
+        up: true,
+        limit: u64::MAX,
+    };
     let mut count = 0u128;
     let mut from = 0u64;
     let mut at = Some(position);
     loop {
-        let stepped = step_on(nodes, at, from, &mut leaf, seat)?;
+        let stepped = read_on(nodes, at, from, bound, &mut leaf, 0, seat)?;
         let step = stepped.step;
         count += step.count as u128;
-        if step.last == u64::MAX {
+        if step.last == bound.limit {
             return Some(count);
         }
-        from = step.last + 1;
+        from = key_after(step.last, bound);
         at = Some(stepped.position);
     }
 }

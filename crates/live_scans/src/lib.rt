@@ -1,10 +1,14 @@
 //! Readers of many keys of a map that threads read without a lock.
 //!
-//! A reader goes down from the root for each leaf. At the check of a node's version word it learns what the map has then at
-//! all keys that begin like the node. So a leaf gives its pairs, and a node above shows which keys aren't there.
+//! A reader goes from leaf to leaf, upwards or downwards, by the same code: `page`, `seek` and `leaf` take the direction. At the
+//! check of a node's version word it learns what the map has then at all keys that begin like the node. So a leaf gives its pairs,
+//! and a node above shows which keys aren't there. It keeps its place at the inner node above the leaf, and begins at the root
+//! again where the next key isn't below that node.
 //!
+//! - `next`: the path upwards. `gaps`: keys that are passed downwards
 //! - `scans`: pages of a range, and the pair from a key on
-//! - `floors`: the pair up to a key. Where a node above a leaf has no children there, it passes all keys of the gap at once
+//! - `descents`: pages of a range downwards
+//! - `floors`: the pair up to a key
 //! - `counts`: how many pairs there are, and whether there is any. No count is kept, since all writers would write it
 //!
 //! Tested in `test_live_faces`.
@@ -12,12 +16,16 @@
 
 pub mod after;
 pub mod counts;
+pub mod descents;
+pub mod fill;
 pub mod floors;
+pub mod gaps;
 pub mod keys;
 pub mod laws;
+pub mod leaf;
 pub mod next;
 pub mod on_check;
 pub mod page;
+pub mod position;
 pub mod scans;
 pub mod seek;
-pub mod steps;

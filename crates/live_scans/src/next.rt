@@ -11,6 +11,7 @@ ghost use Rattle.live_scans.specs.inner.Nexts.{IsNear, IsNext, HasHead, IsOutsid
 use crate::after::child_after;
 use crate::keys::{floor_of, last_of, upper};
 use crate::on_check::Whole;
+use crate::position::Position;
 use live_law::law::{Above, Asks, Below, Head, Look, MapLaw, MapView};
 use live_layout::form::{form_below, slot_below};
 use live_layout::words::ReadWords;
@@ -27,74 +28,58 @@ pub struct Near<'a> {
     pub found: Option<(u8, u64)>,
 }
 
-/// A node below an open one, which is open, too: its name, its height, and the first key that begins like it.
+/// A node below an open one, which is open, too, with the first key that begins like it.
 #[derive(Clone, Copy)]
 pub struct Lower<'a> {
-    pub name: u64,
-    pub height: usize,
-    pub first: u64,
+    pub node: Position,
     pub here: Opened<'a>,
 }
 
-/// A node that is next on the path of a reader, its height, and the first of its keys that isn't passed.
-#[derive(Clone, Copy, Debug, PartialEq, Eq)]
-pub struct Child {
-    pub name: u64,
-    pub height: usize,
-    pub first: u64,
-}
-
-/// What is next from a key on: none up to another one, which is the last of a leaf, or a node.
+/// What is next from a key on: none up to another one, which is the last of a leaf, or a node, with the first of its keys that isn't
+/// passed.
 #[derive(Clone, Copy, Debug, PartialEq, Eq)]
 pub enum Turn {
     Past(u64),
-    Goes(Child),
+    Goes(Position),
 }
 
 /// A node that a key has come to is open, and its nearest child read. `None` where a writer came in between.
-fn open_near<'a>(
-    nodes: &'a Nodes,
-    name: u64,
-    height: usize,
-    key: u64,
-    seat: &mut Seat,
-) -> Option<Near<'a>>
+fn open_near<'a>(nodes: &'a Nodes, at: Position, seat: &mut Seat) -> Option<Near<'a>>
     requires book { seat.old.book ≡ nodes.now }
-    requires named { Names seat.old.view name key height }
-    requires height { (2 ≤ height) × (height ≤ 8) }
-    ensures told { (seat.new.book ≡ seat.old.book) × (seat.new.id ≡ seat.old.id)
-        × Keeps seat.old.view seat.new.view
-        × (seat.new.view.client.seen ≡ seat.old.view.client.seen) }
+    requires named { Names seat.old.view at.name at.key at.height }
+    requires height { (2 ≤ at.height) × (at.height ≤ 8) }
+    ensures book { seat.new.book ≡ seat.old.book }
+    ensures id { seat.new.id ≡ seat.old.id }
+    ensures keeps { Keeps seat.old.view seat.new.view }
+    ensures seen { seat.new.view.client.seen ≡ seat.old.view.client.seen }
     ensures near { IfSome result (λ n. let here = n.here
-        in IsNear seat.new.view seat.new.book here.words.now here.taken name key height n.found) }
+        in IsNear seat.new.view seat.new.book here.words.now here.taken at n.found) }
 {
-    let here = enter(nodes, name, height, key, seat)?;
+    let here = enter(nodes, at.name, at.height, at.key, seat)?;
     let row = SharedWords { words: here.words };
-    let found = child_after(&row, form_below(name), byte_at(key, height), seat);
+    let found = child_after(&row, form_below(at.name), byte_at(at.key, at.height), seat);
     Some(Near { here, found })
 }
 
 /// Meets the nearest child of an open node, which has a key under the same byte. `false` where a writer came in between.
 fn meet_under<A: Asks>(
     here: Opened<'_>,
-    name: u64,
-    height: usize,
-    key: u64,
+    at: Position,
     byte: u8,
     word: u64,
     to: u64,
     seat: &mut Seat,
 ) -> bool
     requires asks { (A.ask.key ≡ to) × (A.ask.caller ≡ seat.old.id) }
-    requires to { up (height - 1) to ≡ 256 * up height key + byte }
-    requires near { IsNear seat.old.view seat.old.book here.words.now here.taken name key height
-        (Some (byte, word)) }
-    requires height { (2 ≤ height) × (height ≤ 8) }
-    ensures told { (seat.new.book ≡ seat.old.book) × (seat.new.id ≡ seat.old.id)
-        × Keeps seat.old.view seat.new.view
-        × (seat.new.view.client.seen ≡ seat.old.view.client.seen) }
+    requires to { up (at.height - 1) to ≡ 256 * up at.height at.key + byte }
+    requires near { IsNear seat.old.view seat.old.book here.words.now here.taken at (Some (byte, word)) }
+    requires height { (2 ≤ at.height) × (at.height ≤ 8) }
+    ensures book { seat.new.book ≡ seat.old.book }
+    ensures id { seat.new.id ≡ seat.old.id }
+    ensures keeps { Keeps seat.old.view seat.new.view }
+    ensures seen { seat.new.view.client.seen ≡ seat.old.view.client.seen }
     ensures near { IsTrue result → IsNear seat.new.view seat.new.book here.entry.words.now here.entry.taken
-        name key height (Some (byte, word)) }
+        at (Some (byte, word)) }
     ensures met { IsTrue result → ((s : ℕ) × IsWord word (Node s) × Sights seat.new.view s) }
 {
     let _ = to;
@@ -106,28 +91,26 @@ fn meet_under<A: Asks>(
 fn watch_next<'a, N: Above>(
     nodes: &'a Nodes,
     here: Opened<'_>,
-    name: u64,
-    height: usize,
-    key: u64,
+    at: Position,
     byte: u8,
     word: u64,
     seat: &mut Seat,
 ) -> Option<Lower<'a>>
     requires book { seat.old.book ≡ nodes.now }
-    requires near { IsNear seat.old.view seat.old.book here.words.now here.taken name key height
-        (Some (byte, word)) }
-    requires height { (2 ≤ height) × (height ≤ 8) }
+    requires near { IsNear seat.old.view seat.old.book here.words.now here.taken at (Some (byte, word)) }
+    requires height { (2 ≤ at.height) × (at.height ≤ 8) }
     requires met { (s : ℕ) × IsWord word (Node s) × Sights seat.old.view s }
     requires above { (N.number ≡ first_number seat.old.view.reads) × (N.word ≡ Some here.taken) }
-    ensures told { (seat.new.book ≡ seat.old.book) × (seat.new.id ≡ seat.old.id)
-        × Keeps seat.old.view seat.new.view
-        × (seat.new.view.client.seen ≡ seat.old.view.client.seen) }
+    ensures book { seat.new.book ≡ seat.old.book }
+    ensures id { seat.new.id ≡ seat.old.id }
+    ensures keeps { Keeps seat.old.view seat.new.view }
+    ensures seen { seat.new.view.client.seen ≡ seat.old.view.client.seen }
     ensures next { IfSome result (λ l. let there = l.here
-        in IsNext seat.new.view seat.new.book here.entry.words.now here.entry.taken name key height byte word
-        l.name l.height l.first there.words.now there.taken) }
+        in IsNext seat.new.view seat.new.book here.entry.words.now here.entry.taken at (byte, word)
+        l.node there.words.now there.taken) }
 {
     let below = slot_below(word);
-    if below == name {
+    if below == at.name {
         return None;
     }
     let there = open(nodes, below, seat)?;
@@ -139,9 +122,11 @@ fn watch_next<'a, N: Above>(
     let first = floor_of(head);
     match compare(head, first) {
         PrefixMatch::Covers(height) => Some(Lower {
-            name: below,
-            height,
-            first,
+            node: Position {
+                name: below,
+                height,
+                key: first,
+            },
             here: there,
         }),
         PrefixMatch::Leaves(_, _) => None,
@@ -151,25 +136,24 @@ fn watch_next<'a, N: Above>(
 /// Whether an open node is what it was. So no other keys are there, up to a child's byte, than those of the child.
 fn is_still<A: Asks>(
     here: Opened<'_>,
-    name: u64,
-    height: usize,
-    key: u64,
+    at: Position,
     byte: u8,
     word: u64,
     lower: Lower<'_>,
     seat: &mut Seat,
 ) -> bool
     requires asks { A.ask.caller ≡ seat.old.id }
-    requires height { (2 ≤ height) × (height ≤ 8) }
-    requires next { IsNext seat.old.view seat.old.book here.words.now here.taken name key height byte word
-        lower.name lower.height lower.first lower.here.words.now lower.here.taken }
-    ensures told { (seat.new.book ≡ seat.old.book) × (seat.new.id ≡ seat.old.id)
-        × Keeps seat.old.view seat.new.view
-        × SeesMore seat.new.view.client.seen seat.old.id seat.old.view.client.seen }
+    requires height { (2 ≤ at.height) × (at.height ≤ 8) }
+    requires next { IsNext seat.old.view seat.old.book here.words.now here.taken at (byte, word)
+        lower.node lower.here.words.now lower.here.taken }
+    ensures book { seat.new.book ≡ seat.old.book }
+    ensures id { seat.new.id ≡ seat.old.id }
+    ensures keeps { Keeps seat.old.view seat.new.view }
+    ensures seen { SeesMore seat.new.view.client.seen seat.old.id seat.old.view.client.seen }
     ensures none { IsTrue result → HasNone seat.old.id seat.old.view seat.new.view
-        (IsOutside height key byte lower.entry.height lower.entry.first) }
-    ensures head { IsTrue result → HasHead seat.new.view seat.new.book lower.entry.name lower.entry.height
-        lower.entry.first lower.entry.here.words.now lower.entry.here.taken }
+        (IsOutside at byte lower.entry.node) }
+    ensures head { IsTrue result → HasHead seat.new.view seat.new.book lower.entry.node
+        lower.entry.here.words.now lower.entry.here.taken }
 {
     let Opened { words, taken } = here;
     node::check::<MapView, MapLaw, Whole<A>>(&words[0], taken, seat)
@@ -177,141 +161,123 @@ fn is_still<A: Asks>(
 
 /// Whether a node is still what its head says.
 fn arrive(lower: Lower<'_>, seat: &mut Seat) -> bool
-    requires head { HasHead seat.old.view seat.old.book lower.name lower.height lower.first
+    requires head { HasHead seat.old.view seat.old.book lower.node
         lower.here.words.now lower.here.taken }
-    ensures told { (seat.new.book ≡ seat.old.book) × (seat.new.id ≡ seat.old.id)
-        × Keeps seat.old.view seat.new.view
-        × (seat.new.view.client.seen ≡ seat.old.view.client.seen) }
-    ensures named { IsTrue result → Names seat.new.view lower.entry.name lower.entry.first lower.entry.height }
+    ensures book { seat.new.book ≡ seat.old.book }
+    ensures id { seat.new.id ≡ seat.old.id }
+    ensures keeps { Keeps seat.old.view seat.new.view }
+    ensures seen { seat.new.view.client.seen ≡ seat.old.view.client.seen }
+    ensures named { IsTrue result → Names seat.new.view lower.entry.node.name lower.entry.node.key
+        lower.entry.node.height }
 {
     let Opened { words, taken } = lower.here;
     node::check::<MapView, MapLaw, Head>(&words[0], taken, seat)
 }
 
 // Where to go on: at the node below, if it has this key or a later one, or behind its byte.
-fn choose(key: u64, height: usize, byte: u8, to: u64, lower: Lower<'_>) -> Option<Turn>
-    requires height { (2 ≤ height) × (height ≤ 8) }
-    requires to { up (height - 1) to ≡ 256 * up height key + byte }
-    ensures { Chooses height key byte lower.entry.name lower.entry.height lower.entry.first result }
+fn choose(at: Position, byte: u8, to: u64, lower: Position) -> Option<Turn>
+    requires height { (2 ≤ at.height) × (at.height ≤ 8) }
+    requires to { up (at.height - 1) to ≡ 256 * up at.height at.key + byte }
+    ensures { Chooses at byte lower result }
 {
-    let Lower {
-        name,
-        height: low,
-        first,
-        ..
-    } = lower;
-    if low < 1 || low >= height {
+    let low = lower.height;
+    let first = lower.key;
+    if low < 1 || low >= at.height {
         return None;
     }
     let base = upper(first, low);
-    if upper(key, low) == base {
-        return Some(Turn::Goes(Child {
-            name,
+    if upper(at.key, low) == base {
+        return Some(Turn::Goes(Position {
+            name: lower.name,
             height: low,
-            first: key,
+            key: at.key,
         }));
     }
-    if first < key {
-        if to < key || to % 256 != 255 {
+    if first < at.key {
+        if to < at.key || to % 256 != 255 {
             return None;
         }
         return Some(Turn::Past(to));
     }
-    if first == key || first % 256 != 0 {
+    if first == at.key || first % 256 != 0 {
         return None;
     }
-    if upper(first - 1, low) == base || upper(first, height - 1) != upper(to, height - 1) {
+    if upper(first - 1, low) == base || upper(first, at.height - 1) != upper(to, at.height - 1) {
         return None;
     }
-    Some(Turn::Goes(Child {
-        name,
-        height: low,
-        first,
-    }))
+    Some(Turn::Goes(lower))
 }
 
 /// What is next where an open node has a child from the key's byte on. `None` where a writer came in between.
 fn beside<A: Asks>(
     nodes: &Nodes,
     here: Opened<'_>,
-    name: u64,
-    height: usize,
-    key: u64,
+    at: Position,
     byte: u8,
     word: u64,
     seat: &mut Seat,
 ) -> Option<Turn>
     requires book { seat.old.book ≡ nodes.now }
     requires asks { A.ask.caller ≡ seat.old.id }
-    requires near { IsNear seat.old.view seat.old.book here.words.now here.taken name key height
-        (Some (byte, word)) }
-    requires height { (2 ≤ height) × (height ≤ 8) }
-    ensures told { (seat.new.book ≡ seat.old.book) × (seat.new.id ≡ seat.old.id)
-        × Keeps seat.old.view seat.new.view
-        × SeesMore seat.new.view.client.seen seat.old.id seat.old.view.client.seen
-        × Turns seat.old.id seat.old.view seat.new.view key height result }
+    requires near { IsNear seat.old.view seat.old.book here.words.now here.taken at (Some (byte, word)) }
+    requires height { (2 ≤ at.height) × (at.height ≤ 8) }
+    ensures book { seat.new.book ≡ seat.old.book }
+    ensures id { seat.new.id ≡ seat.old.id }
+    ensures keeps { Keeps seat.old.view seat.new.view }
+    ensures seen { SeesMore seat.new.view.client.seen seat.old.id seat.old.view.client.seen }
+    ensures turns { Turns seat.old.id seat.old.view seat.new.view at result }
 {
-    let to = last_of(key, height, byte);
-    if !meet_under::<Brand>(here, name, height, key, byte, word, to, seat) {
+    let to = last_of(at.key, at.height, byte);
+    if !meet_under::<Brand>(here, at, byte, word, to, seat) {
         return None;
     }
-    let lower = watch_next::<Brand>(nodes, here, name, height, key, byte, word, seat)?;
-    if !is_still::<A>(here, name, height, key, byte, word, lower, seat) {
+    let lower = watch_next::<Brand>(nodes, here, at, byte, word, seat)?;
+    if !is_still::<A>(here, at, byte, word, lower, seat) {
         return None;
     }
     if !arrive(lower, seat) {
         return None;
     }
-    choose(key, height, byte, to, lower)
+    choose(at, byte, to, lower.node)
 }
 
 // What is next where an open node has no child from the key's byte on.
-fn behind<A: Asks>(
-    here: Opened<'_>,
-    name: u64,
-    height: usize,
-    key: u64,
-    seat: &mut Seat,
-) -> Option<Turn>
+fn behind<A: Asks>(here: Opened<'_>, at: Position, seat: &mut Seat) -> Option<Turn>
     requires asks { A.ask.caller ≡ seat.old.id }
-    requires near { IsNear seat.old.view seat.old.book here.words.now here.taken name key height None }
-    requires height { (2 ≤ height) × (height ≤ 8) }
-    ensures told { (seat.new.book ≡ seat.old.book) × (seat.new.id ≡ seat.old.id)
-        × Keeps seat.old.view seat.new.view
-        × SeesMore seat.new.view.client.seen seat.old.id seat.old.view.client.seen
-        × Turns seat.old.id seat.old.view seat.new.view key height result }
+    requires near { IsNear seat.old.view seat.old.book here.words.now here.taken at None }
+    requires height { (2 ≤ at.height) × (at.height ≤ 8) }
+    ensures book { seat.new.book ≡ seat.old.book }
+    ensures id { seat.new.id ≡ seat.old.id }
+    ensures keeps { Keeps seat.old.view seat.new.view }
+    ensures seen { SeesMore seat.new.view.client.seen seat.old.id seat.old.view.client.seen }
+    ensures turns { Turns seat.old.id seat.old.view seat.new.view at result }
 {
     let Opened { words, taken } = here;
     if !node::check::<MapView, MapLaw, Whole<A>>(&words[0], taken, seat) {
         return None;
     }
-    let last = last_of(key, height, 255);
-    if last < key || last % 256 != 255 {
+    let last = last_of(at.key, at.height, 255);
+    if last < at.key || last % 256 != 255 {
         return None;
     }
     Some(Turn::Past(last))
 }
 
 /// What is next from a key on below a node that has keys which begin like it. `None` where a writer came in between.
-pub fn next_turn<A: Asks>(
-    nodes: &Nodes,
-    name: u64,
-    height: usize,
-    key: u64,
-    seat: &mut Seat,
-) -> Option<Turn>
+pub fn next_turn<A: Asks>(nodes: &Nodes, at: Position, seat: &mut Seat) -> Option<Turn>
     requires book { seat.old.book ≡ nodes.now }
     requires asks { A.ask.caller ≡ seat.old.id }
-    requires named { Names seat.old.view name key height }
-    requires height { (2 ≤ height) × (height ≤ 8) }
-    ensures told { (seat.new.book ≡ seat.old.book) × (seat.new.id ≡ seat.old.id)
-        × Keeps seat.old.view seat.new.view
-        × SeesMore seat.new.view.client.seen seat.old.id seat.old.view.client.seen
-        × Turns seat.old.id seat.old.view seat.new.view key height result }
+    requires named { Names seat.old.view at.name at.key at.height }
+    requires height { (2 ≤ at.height) × (at.height ≤ 8) }
+    ensures book { seat.new.book ≡ seat.old.book }
+    ensures id { seat.new.id ≡ seat.old.id }
+    ensures keeps { Keeps seat.old.view seat.new.view }
+    ensures seen { SeesMore seat.new.view.client.seen seat.old.id seat.old.view.client.seen }
+    ensures turns { Turns seat.old.id seat.old.view seat.new.view at result }
 {
-    let near = open_near(nodes, name, height, key, seat)?;
+    let near = open_near(nodes, at, seat)?;
     match near.found {
-        None => behind::<A>(near.here, name, height, key, seat),
-        Some((byte, word)) => beside::<A>(nodes, near.here, name, height, key, byte, word, seat),
+        None => behind::<A>(near.here, at, seat),
+        Some((byte, word)) => beside::<A>(nodes, near.here, at, byte, word, seat),
     }
 }

@@ -4,7 +4,7 @@ ghost use Rattle.std.specs.Prelude.{◌≡◌, ◌+◌, ◌≤◌, length, take,
 ghost use Rattle.live_layout.specs.Page.{pairs_of};
 ghost use Rattle.live_scans.specs.Scans.{HasBegun, GaveUp, HasPage, HasNext};
 
-use crate::page::page;
+use crate::page::{Bound, page};
 use crate::seek::start;
 use live_growth::map::{Busy, Congee, Guard};
 use live_layout::page::RangeEntry;
@@ -49,7 +49,11 @@ pub fn range_inclusive<P: RangeEntry>(
     let Some(position) = start(&map.nodes, first, &mut guard.seat) else {
         return Err(Busy);
     };
-    let Some(step) = page(&map.nodes, position, first, last, buffer, &mut guard.seat) else {
+    let bound = Bound {
+        up: true,
+        limit: last,
+    };
+    let Some(step) = page(&map.nodes, position, first, bound, buffer, &mut guard.seat) else {
         return Err(Busy);
     };
     Ok(step.count)

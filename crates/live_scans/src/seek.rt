@@ -1,24 +1,19 @@
-//! The path of a reader to the leaf of a key.
-ghost use Rattle.std.specs.Prelude.{◌≡◌, IfSome};
+//! The path of a reader from a node to a leaf, upwards or downwards.
+ghost use Rattle.std.specs.Prelude.{◌≡◌, true, false, IfSome};
 ghost use Rattle.live_scans.specs.inner.Moments.{SeesMore};
 ghost use Rattle.live_reads.specs.Paths.{KnowsRootWord, Keeps};
 ghost use Rattle.live_scans.specs.inner.Stops.{IsPosition, Starts, Reaches};
 
+use crate::gaps::{around, gap};
 use crate::keys::upper;
 use crate::next::{Turn, next_turn};
+use crate::position::Position;
 use live_growth::map::TRIES;
 use live_law::law::Asks;
 use live_reads::path::{Nodes, Seat, root, root_begun};
+use live_reads::prefix_match::{Next, enter, step};
 
-/// A node that a reader has come to, its height, and a key that begins like it.
-#[derive(Clone, Copy, Debug, PartialEq, Eq)]
-pub struct Position {
-    pub name: u64,
-    pub height: usize,
-    pub key: u64,
-}
-
-/// Where a reader's path ends: past keys that are absent, or at a leaf, with the first of its keys that isn't passed.
+/// Where a reader's path ends: past keys that are absent, up to this one, or at a leaf, with the first of its keys that isn't passed.
 #[derive(Clone, Copy, Debug, PartialEq, Eq)]
 pub enum Reach {
     Past(u64),
@@ -32,20 +27,22 @@ pub struct Sought {
     pub reach: Reach,
 }
 
-/// The end of a reader's path from a node on. `None` where a writer came in between.
-pub fn seek_on<A: Asks>(nodes: &Nodes, position: Position, seat: &mut Seat) -> Option<Sought>
+// The end of a reader's path upwards from a node on. `None` where a writer came in between.
+fn seek_up<A: Asks>(nodes: &Nodes, position: Position, seat: &mut Seat) -> Option<Sought>
     requires book { seat.old.book ≡ nodes.now }
     requires asks { A.ask.caller ≡ seat.old.id }
     requires position { IsPosition seat.old.view position }
-    ensures told { (seat.new.book ≡ seat.old.book) × (seat.new.id ≡ seat.old.id)
-        × Keeps seat.old.view seat.new.view
-        × SeesMore seat.new.view.client.seen seat.old.id seat.old.view.client.seen
-        × IfSome result (λ s. IsPosition seat.new.view s.position
-        × Reaches seat.old.id seat.old.view seat.new.view position.key s.reach) }
+    ensures book { seat.new.book ≡ seat.old.book }
+    ensures id { seat.new.id ≡ seat.old.id }
+    ensures keeps { Keeps seat.old.view seat.new.view }
+    ensures seen { SeesMore seat.new.view.client.seen seat.old.id seat.old.view.client.seen }
+    ensures position { IfSome result (λ s. IsPosition seat.new.view s.position) }
+    ensures reaches { IfSome result (λ s. Reaches true seat.old.id seat.old.view seat.new.view
+        position.key s.reach) }
 {
     let mut at = position;
     loop {
-        match next_turn::<A>(nodes, at.name, at.height, at.key, seat)? {
+        match next_turn::<A>(nodes, at, seat)? {
             Turn::Past(last) => {
                 return Some(Sought {
                     position: at,
@@ -56,17 +53,88 @@ pub fn seek_on<A: Asks>(nodes: &Nodes, position: Position, seat: &mut Seat) -> O
                 if child.height == 1 {
                     return Some(Sought {
                         position: at,
-                        reach: Reach::Leaf(child.name, child.first),
+                        reach: Reach::Leaf(child.name, child.key),
                     });
                 }
-                at = Position {
-                    name: child.name,
-                    height: child.height,
-                    key: child.first,
-                };
+                at = child;
             }
         }
     }
+}
+
+// The end of a reader's path downwards from a node on, by the position's key. `None` where a writer came in between.
+fn seek_down<A: Asks>(nodes: &Nodes, position: Position, seat: &mut Seat) -> Option<Sought>
+    requires book { seat.old.book ≡ nodes.now }
+    requires asks { (A.ask.key ≡ position.key) × (A.ask.caller ≡ seat.old.id) × (A.reads ≡ false) }
+    requires position { IsPosition seat.old.view position }
+    ensures book { seat.new.book ≡ seat.old.book }
+    ensures id { seat.new.id ≡ seat.old.id }
+    ensures keeps { Keeps seat.old.view seat.new.view }
+    ensures seen { SeesMore seat.new.view.client.seen seat.old.id seat.old.view.client.seen }
+    ensures position { IfSome result (λ s. IsPosition seat.new.view s.position) }
+    ensures reaches { IfSome result (λ s. Reaches false seat.old.id seat.old.view seat.new.view
+        position.key s.reach) }
+{
+    let key = position.key;
+    let mut at = position;
+    let mut here = enter(nodes, at.name, at.height, key, seat)?;
+    loop {
+        let step = step::<A>(nodes, here, at.name, at.height, key, seat)?;
+        match step.next {
+            Next::Ends => {
+                let first = gap::<A>(nodes, at.name, at.height, key, seat)?;
+                return Some(Sought {
+                    position: at,
+                    reach: Reach::Past(first),
+                });
+            }
+            Next::Goes(below, lower) => {
+                if lower == 1 {
+                    return Some(Sought {
+                        position: at,
+                        reach: Reach::Leaf(below, key),
+                    });
+                }
+                at = Position {
+                    name: below,
+                    height: lower,
+                    key,
+                };
+                here = step.here;
+            }
+            Next::Mismatches(mismatch) => {
+                let first = around::<A>(nodes, at.name, at.height, mismatch, key, seat)?;
+                return Some(Sought {
+                    position: at,
+                    reach: Reach::Past(first),
+                });
+            }
+        }
+    }
+}
+
+/// The end of a reader's path from a node on, upwards (`true`) or downwards. `None` where a writer came in between.
+pub fn seek_on<A: Asks>(
+    nodes: &Nodes,
+    position: Position,
+    up: bool,
+    seat: &mut Seat,
+) -> Option<Sought>
+    requires book { seat.old.book ≡ nodes.now }
+    requires asks { (A.ask.key ≡ position.key) × (A.ask.caller ≡ seat.old.id) × (A.reads ≡ false) }
+    requires position { IsPosition seat.old.view position }
+    ensures book { seat.new.book ≡ seat.old.book }
+    ensures id { seat.new.id ≡ seat.old.id }
+    ensures keeps { Keeps seat.old.view seat.new.view }
+    ensures seen { SeesMore seat.new.view.client.seen seat.old.id seat.old.view.client.seen }
+    ensures position { IfSome result (λ s. IsPosition seat.new.view s.position) }
+    ensures reaches { IfSome result (λ s. Reaches up seat.old.id seat.old.view seat.new.view
+        position.key s.reach) }
+{
+    if up {
+        return seek_up::<A>(nodes, position, seat);
+    }
+    seek_down::<A>(nodes, position, seat)
 }
 
 /// A node on the path of a key: this one, if the key begins like it, or the root. `None` where a writer came in between.
@@ -79,10 +147,11 @@ pub fn begin(
     requires book { seat.old.book ≡ nodes.now }
     requires root_word { KnowsRootWord seat.old.view }
     requires position { IfSome position (IsPosition seat.old.view) }
-    ensures told { (seat.new.book ≡ seat.old.book) × (seat.new.id ≡ seat.old.id)
-        × Keeps seat.old.view seat.new.view
-        × (seat.new.view.client.seen ≡ seat.old.view.client.seen)
-        × IfSome result (λ s. (s.key ≡ key) × IsPosition seat.new.view s) }
+    ensures book { seat.new.book ≡ seat.old.book }
+    ensures id { seat.new.id ≡ seat.old.id }
+    ensures keeps { Keeps seat.old.view seat.new.view }
+    ensures seen { seat.new.view.client.seen ≡ seat.old.view.client.seen }
+    ensures position { IfSome result (λ s. (s.key ≡ key) × IsPosition seat.new.view s) }
 {
     if let Some(at) = position {
         if upper(at.key, at.height) == upper(key, at.height) {
@@ -106,9 +175,10 @@ pub fn begin(
 pub fn start(nodes: &Nodes, key: u64, seat: &mut Seat) -> Option<Position>
     requires book { seat.old.book ≡ nodes.now }
     requires root_word { KnowsRootWord seat.old.view }
-    ensures told { (seat.new.book ≡ seat.old.book) × (seat.new.id ≡ seat.old.id)
-        × Keeps seat.old.view seat.new.view
-        × Starts seat.old.id seat.old.view seat.new.view key result }
+    ensures book { seat.new.book ≡ seat.old.book }
+    ensures id { seat.new.id ≡ seat.old.id }
+    ensures keeps { Keeps seat.old.view seat.new.view }
+    ensures starts { Starts seat.old.id seat.old.view seat.new.view key result }
 {
     for _ in 0..TRIES {
         if let Some(name) = root_begun(nodes, key, seat) {

@@ -1,6 +1,5 @@
 //! Worked examples, and comparisons that cross crates.
 
-mod asserts;
 mod budgets;
 mod bulk;
 mod counted;

@@ -9,11 +9,7 @@ use std::alloc::Global;
 use std::test::Fail;
 
 // Statistics with these counts, each level's nodes and entries.
-fn by_hand(
-    alloc: Global,
-    counts: &[([u64; 4], [u64; 4])],
-    kv_pairs: u64,
-) -> Result<NodeStats, OOMError> {
+fn by_hand(alloc: Global, counts: &[Level], kv_pairs: u64) -> Result<NodeStats, OOMError> {
     let mut levels = Vec::new(alloc);
     for (nodes, entries) in counts {
         levels.push(LevelStats {
@@ -57,97 +53,102 @@ fn empty_statistics_have_this_text(rt: HostRuntime) -> Result<(), Fail> {
 // Whether statistics with these counts have this text.
 fn hand_reads(
     alloc: Global,
-    counts: &[([u64; 4], [u64; 4])],
+    counts: &[Level],
     kv_pairs: u64,
     wanted: &str,
 ) -> Result<bool, OOMError> {
     reads(alloc, &by_hand(alloc, counts, kv_pairs)?, wanted)
 }
 
-#[test]
-fn levels_by_hand_have_these_texts(rt: HostRuntime) -> Result<(), Fail> {
-    let alloc = rt.alloc();
-    let none = [0; 4];
-    let full = [u64::MAX; 4];
-    let rows: [(&[([u64; 4], [u64; 4])], &str); 8] = [
-        // each form on a level, and a level without nodes
-        (
-            &[
-                ([1, 2, 3, 4], [3, 20, 100, 1000]),
-                (none, none),
-                ([5, 0, 0, 7], [11, 0, 0, 13]),
-            ],
-            "Level: 0 --- || N4:        1,     0.75 || N16:        2,     0.62 || N48:        3,     0.69 || N256:        4,     0.98 ||\n\
+/// The nodes and the entries of a level, by form.
+type Level = ([u64; 4], [u64; 4]);
+
+const NONE: [u64; 4] = [0; 4];
+
+const FULL: [u64; 4] = [u64::MAX; 4];
+
+const ROWS: [(&[Level], &str); 8] = [
+    // each form on a level, and a level without nodes
+    (
+        &[
+            ([1, 2, 3, 4], [3, 20, 100, 1000]),
+            (NONE, NONE),
+            ([5, 0, 0, 7], [11, 0, 0, 13]),
+        ],
+        "Level: 0 --- || N4:        1,     0.75 || N16:        2,     0.62 || N48:        3,     0.69 || N256:        4,     0.98 ||\n\
              Level: 1 --- || N4:        0,     0.00 || N16:        0,     0.00 || N48:        0,     0.00 || N256:        0,     0.00 ||\n\
              Level: 2 --- || N4:        5,     0.55 || N16:        0,     0.00 || N48:        0,     0.00 || N256:        7,     0.01 ||\n\
              Overall node count: 22, entry count: 1147\n\
              Load factor: 0.49 (too low)\n\
              Active memory usage: 0 Mb\n\
              KV count: 42\n",
-        ),
-        // a tie goes to the even hundredth: 13 / 40
-        (
-            &[([10, 0, 0, 0], [13, 0, 0, 0])],
-            "Level: 0 --- || N4:       10,     0.32 || N16:        0,     0.00 || N48:        0,     0.00 || N256:        0,     0.00 ||\n\
+    ),
+    // a tie goes to the even hundredth: 13 / 40
+    (
+        &[([10, 0, 0, 0], [13, 0, 0, 0])],
+        "Level: 0 --- || N4:       10,     0.32 || N16:        0,     0.00 || N48:        0,     0.00 || N256:        0,     0.00 ||\n\
              Overall node count: 10, entry count: 13\n\
              Load factor: 0.32 (too low)\n\
              Active memory usage: 0 Mb\n\
              KV count: 42\n",
-        ),
-        // one half isn't too low; what is printed alike may be
-        (
-            &[([1, 0, 0, 0], [2, 0, 0, 0])],
-            "Level: 0 --- || N4:        1,     0.50 || N16:        0,     0.00 || N48:        0,     0.00 || N256:        0,     0.00 ||\n\
+    ),
+    // one half isn't too low; what is printed alike may be
+    (
+        &[([1, 0, 0, 0], [2, 0, 0, 0])],
+        "Level: 0 --- || N4:        1,     0.50 || N16:        0,     0.00 || N48:        0,     0.00 || N256:        0,     0.00 ||\n\
              Overall node count: 1, entry count: 2\n\
              Load factor: 0.50\n\
              Active memory usage: 0 Mb\n\
              KV count: 42\n",
-        ),
-        (
-            &[([0, 0, 0, 1], [0, 0, 0, 127])],
-            "Level: 0 --- || N4:        0,     0.00 || N16:        0,     0.00 || N48:        0,     0.00 || N256:        1,     0.50 ||\n\
+    ),
+    (
+        &[([0, 0, 0, 1], [0, 0, 0, 127])],
+        "Level: 0 --- || N4:        0,     0.00 || N16:        0,     0.00 || N48:        0,     0.00 || N256:        1,     0.50 ||\n\
              Overall node count: 1, entry count: 127\n\
              Load factor: 0.50 (too low)\n\
              Active memory usage: 0 Mb\n\
              KV count: 42\n",
-        ),
-        // 1047792 and 1049896 bytes
-        (
-            &[([0, 0, 0, 498], none)],
-            "Level: 0 --- || N4:        0,     0.00 || N16:        0,     0.00 || N48:        0,     0.00 || N256:      498,     0.00 ||\n\
+    ),
+    // 1047792 and 1049896 bytes
+    (
+        &[([0, 0, 0, 498], NONE)],
+        "Level: 0 --- || N4:        0,     0.00 || N16:        0,     0.00 || N48:        0,     0.00 || N256:      498,     0.00 ||\n\
              Overall node count: 498, entry count: 0\n\
              Load factor: 0.00 (too low)\n\
              Active memory usage: 0 Mb\n\
              KV count: 42\n",
-        ),
-        (
-            &[([0, 0, 0, 499], none)],
-            "Level: 0 --- || N4:        0,     0.00 || N16:        0,     0.00 || N48:        0,     0.00 || N256:      499,     0.00 ||\n\
+    ),
+    (
+        &[([0, 0, 0, 499], NONE)],
+        "Level: 0 --- || N4:        0,     0.00 || N16:        0,     0.00 || N48:        0,     0.00 || N256:      499,     0.00 ||\n\
              Overall node count: 499, entry count: 0\n\
              Load factor: 0.00 (too low)\n\
              Active memory usage: 1 Mb\n\
              KV count: 42\n",
-        ),
-        // entries without nodes, and a factor wider than its place
-        (
-            &[(none, full)],
-            "Level: 0 --- || N4:        0,     0.00 || N16:        0,     0.00 || N48:        0,     0.00 || N256:        0,     0.00 ||\n\
+    ),
+    // entries without nodes, and a factor wider than its place
+    (
+        &[(NONE, FULL)],
+        "Level: 0 --- || N4:        0,     0.00 || N16:        0,     0.00 || N48:        0,     0.00 || N256:        0,     0.00 ||\n\
              Overall node count: 0, entry count: 73786976294838206460\n\
              Load factor: 0.00\n\
              Active memory usage: 0 Mb\n\
              KV count: 42\n",
-        ),
-        (
-            &[([1, 0, 0, 0], [u64::MAX, 0, 0, 0])],
-            "Level: 0 --- || N4:        1, 4611686018427387903.75 || N16:        0,     0.00 || N48:        0,     0.00 || N256:        0,     0.00 ||\n\
+    ),
+    (
+        &[([1, 0, 0, 0], [u64::MAX, 0, 0, 0])],
+        "Level: 0 --- || N4:        1, 4611686018427387903.75 || N16:        0,     0.00 || N48:        0,     0.00 || N256:        0,     0.00 ||\n\
              Overall node count: 1, entry count: 18446744073709551615\n\
              Load factor: 4611686018427387903.75\n\
              Active memory usage: 0 Mb\n\
              KV count: 42\n",
-        ),
-    ];
-    for (counts, wanted) in rows {
-        assert!(rt; hand_reads(alloc, counts, 42, wanted)?);
+    ),
+];
+
+#[test]
+fn levels_by_hand_have_these_texts(rt: HostRuntime) -> Result<(), Fail> {
+    for (counts, wanted) in &ROWS {
+        assert!(rt; hand_reads(rt.alloc(), counts, 42, wanted)?);
     }
     Ok(())
 }
@@ -187,20 +188,23 @@ fn the_ninth_level_is_left_out(rt: HostRuntime) -> Result<(), Fail> {
     Ok(())
 }
 
+// A numerator, a denominator, and the hundredths of their quotient.
+const HUNDREDTHS: [(u128, u128, u128); 9] = [
+    (32, 256, 12),
+    (96, 256, 38),
+    (13, 40, 32),
+    (195, 1536, 13),
+    (1, 256, 0),
+    (1, 200, 0),
+    (3, 200, 2),
+    (3, 2, 150),
+    (7, 0, 0),
+];
+
 #[test]
 fn hundredths_are_the_nearest(rt: HostRuntime) {
-    for (numerator, denominator, wanted) in [
-        (32, 256, 12),
-        (96, 256, 38),
-        (13, 40, 32),
-        (195, 1536, 13),
-        (1, 256, 0),
-        (1, 200, 0),
-        (3, 200, 2),
-        (3, 2, 150),
-        (7, 0, 0),
-    ] {
-        assert_eq!(rt; hundredths(numerator, denominator), wanted);
+    for (numerator, denominator, wanted) in HUNDREDTHS {
+        assert!(rt; hundredths(numerator, denominator) == wanted);
     }
 }
 
@@ -215,48 +219,47 @@ fn counts_past_the_greatest(stats: &mut NodeStats) -> Result<(), OOMError> {
 }
 
 // Whether the levels have these nodes and entries.
-fn has_counts(levels: &[LevelStats], wanted: &[([u64; 4], [u64; 4])]) -> bool {
+fn has_counts(levels: &[LevelStats], wanted: &[Level]) -> bool {
     if levels.len() != wanted.len() {
         return false;
     }
-    for (level, counts) in levels.iter().zip(wanted) {
-        if (level.nodes, level.entries) != *counts {
+    for place in 0..levels.len() {
+        let (nodes, entries) = wanted[place];
+        if levels[place].nodes != nodes || levels[place].entries != entries {
             return false;
         }
     }
     true
 }
 
-// The pairs of statistics that counted too much, and whether their levels have these nodes and entries.
-fn after_too_much(alloc: Global, wanted: &[([u64; 4], [u64; 4])]) -> Result<(u64, bool), OOMError> {
+const GREATEST: [Level; 3] = [
+    ([0, 1, 0, 0], [0, 7, 0, 0]),
+    (NONE, NONE),
+    ([0, 0, 2, 0], [0, 0, u64::MAX, 0]),
+];
+
+// Whether statistics that counted too much have the greatest count of pairs, and these levels.
+fn after_too_much(alloc: Global) -> Result<bool, OOMError> {
     let mut stats = NodeStats::empty(alloc);
     counts_past_the_greatest(&mut stats)?;
-    let pairs = stats.kv_pairs;
-    let levels = stats.levels.into_vec();
-    Ok((pairs, has_counts(&levels, wanted)))
+    Ok(stats.kv_pairs == u64::MAX && has_counts(stats.levels.as_slice(), &GREATEST))
 }
 
 #[test]
 fn counts_stay_at_the_greatest(rt: HostRuntime) -> Result<(), Fail> {
-    let wanted = [
-        ([0, 1, 0, 0], [0, 7, 0, 0]),
-        ([0, 0, 0, 0], [0, 0, 0, 0]),
-        ([0, 0, 2, 0], [0, 0, u64::MAX, 0]),
-    ];
-    assert_eq!(rt; after_too_much(rt.alloc(), &wanted)?, (u64::MAX, true));
+    assert!(rt; after_too_much(rt.alloc())?);
     Ok(())
 }
 
-// Whether a node without end is refused, and how many levels there are then.
-fn after_no_memory(alloc: Global) -> (bool, usize) {
+// Whether a level without end is refused, and there is none then.
+fn has_no_memory(alloc: Global) -> bool {
     let mut stats = NodeStats::empty(alloc);
-    let refused = stats.add_node(usize::MAX, NodeType::N4, 1) == Err(OOMError::new());
-    (refused, stats.levels.as_slice().len())
+    stats.add_node(usize::MAX, NodeType::N4, 1).is_err() && stats.levels.as_slice().is_empty()
 }
 
 #[test]
 fn a_level_without_end_has_no_memory(rt: HostRuntime) {
-    assert_eq!(rt; after_no_memory(rt.alloc()), (true, 0));
+    assert!(rt; has_no_memory(rt.alloc()));
 }
 
 // What `Debug` and `Serialize` write of a root and a leaf with one pair.

@@ -9,7 +9,6 @@ use crate::error::OOMError;
 use crate::tree_node::TreeNode;
 use std::alloc::Global;
 use std::mem::size_of;
-use std::process::Abort;
 use std::sync::Arc;
 use std::test::Fail;
 
@@ -35,9 +34,22 @@ fn payload_at(node: &TreeNode<u64>, byte: u8) -> Option<u64> {
     }
 }
 
+const PREFIX: [u8; 7] = [1, 2, 3, 4, 5, 6, 7];
+
+const FIVE: [(u8, u64); 5] = [(0, 0), (1, 10), (2, 20), (3, 30), (4, 40)];
+
+fn has_five(leaf: &TreeNode<u64>) -> bool {
+    let base = leaf.base();
+    base.get_type() == NodeType::N16
+        && base.prefix() == PREFIX.as_slice()
+        && base.value_count() == 5
+        && payload_at(leaf, 3) == Some(30)
+        && payload_at(leaf, 5).is_none()
+}
+
 // Puts five payloads into an empty leaf, and grows it where it is full. Whether it has them then.
 fn grows_a_leaf(alloc: Global, leaf: &mut TreeNode<u64>) -> Result<bool, OOMError> {
-    for (byte, payload) in [(0, 0), (1, 10), (2, 20), (3, 30), (4, 40)] {
+    for (byte, payload) in FIVE {
         if leaf.is_full() {
             leaf.grow(alloc)?;
         }
@@ -45,18 +57,17 @@ fn grows_a_leaf(alloc: Global, leaf: &mut TreeNode<u64>) -> Result<bool, OOMErro
             return Ok(false);
         }
     }
-    let base = leaf.base();
-    let has_base = base.get_type() == NodeType::N16
-        && base.prefix() == [1, 2, 3, 4, 5, 6, 7].as_slice()
-        && base.value_count() == 5;
-    Ok(has_base && payload_at(leaf, 3) == Some(30) && payload_at(leaf, 5).is_none())
+    Ok(has_five(leaf))
+}
+
+fn grows_one(alloc: Global) -> Result<bool, OOMError> {
+    let mut leaf = TreeNode::leaf(alloc, &PREFIX)?;
+    grows_a_leaf(alloc, &mut leaf)
 }
 
 #[test]
 fn leaf_grows_and_keeps_its_payloads(rt: HostRuntime) -> Result<(), Fail> {
-    let mut leaf = TreeNode::leaf(rt.alloc(), &[1, 2, 3, 4, 5, 6, 7])?;
-    let is_right = grows_a_leaf(rt.alloc(), &mut leaf)?;
-    assert!(rt; is_right);
+    assert!(rt; grows_one(rt.alloc())?);
     Ok(())
 }
 
@@ -109,81 +120,114 @@ fn finds_last_payloads(alloc: Global, leaf: &mut TreeNode<u64>) -> Result<bool, 
     Ok(true)
 }
 
+fn finds_last_of_one(alloc: Global) -> Result<bool, OOMError> {
+    let mut leaf = TreeNode::empty_leaf(&PREFIX);
+    finds_last_payloads(alloc, &mut leaf)
+}
+
 #[test]
 fn last_payload_in_each_form(rt: HostRuntime) -> Result<(), Fail> {
-    let mut leaf = TreeNode::empty_leaf(&[1, 2, 3, 4, 5, 6, 7]);
-    let is_right = finds_last_payloads(rt.alloc(), &mut leaf)?;
-    assert!(rt; is_right);
+    assert!(rt; finds_last_of_one(rt.alloc())?);
     Ok(())
 }
 
-// Puts one slot in the place of another, and takes it out.
-fn changes_a_slot(rt: &impl Abort, node: &mut TreeNode<u64>)
+fn is_slot(child: Child<u64>, wanted: usize) -> bool {
+    matches!(child, Child::Node(slot) if slot == wanted)
+}
+
+// Whether each call that looks finds this slot under 9, and none elsewhere.
+fn has_slot(node: &TreeNode<u64>, wanted: usize) -> bool {
+    matches!(node.get_child(9), Some(ChildRef::Node(slot)) if slot == wanted)
+        && matches!(node.first_from(0), Some((9, ChildRef::Node(slot))) if slot == wanted)
+        && node.first_from(10).is_none()
+        && matches!(node.last_below(256), Some((9, ChildRef::Node(slot))) if slot == wanted)
+        && node.last_below(9).is_none()
+}
+
+// Puts one slot in the place of another, and takes it out. Whether each call is right.
+fn changes_a_slot(node: &mut TreeNode<u64>) -> bool
     requires { node.old ≡ record { form = N4; prefix = 1 ∷ []; children = [] } }
 {
     node.insert(9, Child::Node(5));
-    assert!(rt; matches!(node.change(9, Child::Node(6)), Child::Node(5)));
-    assert!(rt; matches!(node.get_child(9), Some(ChildRef::Node(6))));
-    assert!(rt; matches!(node.first_from(0), Some((9, ChildRef::Node(6)))));
-    assert!(rt; node.first_from(10).is_none());
-    assert!(rt; matches!(node.last_below(256), Some((9, ChildRef::Node(6)))));
-    assert!(rt; node.last_below(9).is_none());
-    assert!(rt; matches!(node.remove(9), Child::Node(6)));
-    assert!(rt; node.get_child(9).is_none());
+    let right = [
+        is_slot(node.change(9, Child::Node(6)), 5),
+        has_slot(node, 6),
+        is_slot(node.remove(9), 6),
+        node.get_child(9).is_none(),
+    ];
+    right == [true; 4]
+}
+
+fn changes_slots(alloc: Global) -> Result<bool, OOMError> {
+    let mut node = TreeNode::<u64>::inner(alloc, &[1])?;
+    Ok(changes_a_slot(&mut node))
 }
 
 #[test]
 fn inner_nodes_have_slots(rt: HostRuntime) -> Result<(), Fail> {
-    let mut node = TreeNode::<u64>::inner(rt.alloc(), &[1])?;
-    changes_a_slot(&rt, &mut node);
+    assert!(rt; changes_slots(rt.alloc())?);
     Ok(())
 }
 
-// Puts one pair in the place of another, looks at it by each call that borrows, and takes it out.
-fn changes_a_pair(rt: &impl Abort, node: &mut TreeNode<u64, (u8, u64)>)
+type Pairs = TreeNode<u64, (u8, u64)>;
+
+fn is_pair(child: Child<u64, (u8, u64)>, wanted: (u8, u64)) -> bool {
+    matches!(child, Child::Node(pair) if pair == wanted)
+}
+
+// Whether each call that borrows finds this pair under 9, and none elsewhere.
+fn has_pair(node: &Pairs, wanted: (u8, u64)) -> bool {
+    matches!(node.get_child_ref(9), Some(ChildRef::Node(pair)) if *pair == wanted)
+        && matches!(node.first_ref_from(0), Some((9, ChildRef::Node(pair))) if *pair == wanted)
+        && matches!(node.last_ref_below(256), Some((9, ChildRef::Node(pair))) if *pair == wanted)
+        && node.last_ref_below(9).is_none()
+}
+
+const KEY: [u8; 8] = [1, 9, 0, 0, 0, 0, 0, 0];
+
+fn meets_pair(node: &Pairs, wanted: (u8, u64)) -> bool {
+    matches!(node.meet_ref(&KEY, u64::from_be_bytes(KEY)), Meeting::Node(pair) if *pair == wanted)
+}
+
+// Puts one pair in the place of another, and takes it out. Whether each call is right.
+fn changes_a_pair(node: &mut Pairs) -> bool
     requires { node.old ≡ record { form = N4; prefix = 1 ∷ []; children = [] } }
 {
     node.insert(9, Child::Node((5, 50)));
-    assert!(rt; matches!(node.change(9, Child::Node((6, 60))), Child::Node((5, 50))));
-    assert!(rt; matches!(node.get_child_ref(9), Some(ChildRef::Node((6, 60)))));
-    assert!(rt; matches!(node.first_ref_from(0), Some((9, ChildRef::Node((6, 60))))));
-    assert!(rt; matches!(node.last_ref_below(256), Some((9, ChildRef::Node((6, 60))))));
-    assert!(rt; node.last_ref_below(9).is_none());
-    let key = [1, 9, 0, 0, 0, 0, 0, 0];
-    assert!(rt;
-        matches!(
-            node.meet_ref(&key, u64::from_be_bytes(key)),
-            Meeting::Node((6, 60))
-        )
-    );
-    assert!(rt; matches!(node.remove(9), Child::Node((6, 60))));
-    assert!(rt; node.get_child_ref(9).is_none());
+    let right = [
+        is_pair(node.change(9, Child::Node((6, 60))), (5, 50)),
+        has_pair(node, (6, 60)),
+        meets_pair(node, (6, 60)),
+        is_pair(node.remove(9), (6, 60)),
+        node.get_child_ref(9).is_none(),
+    ];
+    right == [true; 5]
 }
 
 #[test]
-fn inner_nodes_may_have_others_than_slots(rt: HostRuntime) -> Result<(), Fail> {
-    let mut node = TreeNode::<u64, (u8, u64)>::empty_inner(&[1]);
-    changes_a_pair(&rt, &mut node);
-    Ok(())
+fn inner_nodes_may_have_others_than_slots(rt: HostRuntime) {
+    assert!(rt; changes_a_pair(&mut Pairs::empty_inner(&[1])));
 }
 
-// The form of an empty tree's root, and whether it is a leaf.
-fn root_is(alloc: Global) -> Result<(NodeType, bool), OOMError> {
+// Whether an empty tree's root is an inner node of the greatest form.
+fn root_is_greatest(alloc: Global) -> Result<bool, OOMError> {
     let root = TreeNode::<u64>::root(alloc)?;
-    Ok((root.base().get_type(), root.is_leaf()))
+    Ok(root.base().get_type() == NodeType::N256 && !root.is_leaf())
 }
 
 #[test]
 fn roots_have_room_for_each_byte(rt: HostRuntime) -> Result<(), Fail> {
-    assert_eq!(rt; root_is(rt.alloc())?, (NodeType::N256, false));
+    assert!(rt; root_is_greatest(rt.alloc())?);
     Ok(())
 }
 
 // A table's slot holds a node of payloads of 8 bytes in 64 bytes, its tag included, whatever the node's form and kind.
 #[test]
-fn slots_are_small(rt: HostRuntime) -> Result<(), Fail> {
-    assert_eq!(rt; size_of::<TreeNode<u64>>(), 56);
-    assert_eq!(rt; size_of::<Option<TreeNode<u64>>>(), 64);
-    assert_eq!(rt; size_of::<Option<TreeNode<Arc<u64>>>>(), 64);
-    Ok(())
+fn slots_are_small(rt: HostRuntime) {
+    let sizes = [
+        size_of::<TreeNode<u64>>(),
+        size_of::<Option<TreeNode<u64>>>(),
+        size_of::<Option<TreeNode<Arc<u64>>>>(),
+    ];
+    assert!(rt; sizes == [56, 64, 64]);
 }

@@ -7,11 +7,11 @@
 //! Tested in `test_live_faces`.
 ghost use Rattle.std.specs.Prelude.{◌≡◌, ◌+◌, ◌≤◌, length, take, IfOk, OnErr};
 ghost use Rattle.live_scans.specs.Scans.{GaveUp, Waits};
-ghost use Rattle.live_descents.specs.Descents.{HasPageDown};
+ghost use Rattle.live_scans.specs.Descents.{HasPageDown};
 
 use super::{Busy, Congee, Guard};
 use crossbeam_utils::Backoff;
-use live_descents::descents;
+use live_scans::descents;
 use spec_map::traits::Word;
 use std::sync::Wait;
 

@@ -1,5 +1,6 @@
 //! Exchanges of the payload that a caller has lent.
-ghost use Rattle.std.specs.Prelude.{◌≡◌, ℕ, Option, Ok, Err, IfOk, IfErr, OnOk};
+ghost use Rattle.std.specs.Prelude.{◌≡◌, ℕ, Option, Ok, Err, IfOk, IfErr, IfSome, OnOk};
+ghost use Rattle.live_slots.specs.Tickets.{IsNew};
 ghost use Rattle.live_payloads.specs.Payloads.{IsGuardOf, KnowsMore, IsPayloadOf, ExchangesPayload};
 
 use super::PayloadCongee;
@@ -22,6 +23,7 @@ impl<K: Word, P: Drop> PayloadCongee<K, P> {
         requires map { IsGuardOf self.now guard.old }
         ensures map { KnowsMore guard.old guard.new }
         ensures tickets { guard.new.tickets ≡ guard.old.tickets }
+        ensures first { IfOk result (λ ticket. IfSome ticket (IsNew guard.old.log)) }
         ensures issued { IfOk result (λ ticket. IsPayloadOf guard.new.log ticket new) }
         ensures back { IfErr result (λ refused. refused.1 ≡ new) }
     {

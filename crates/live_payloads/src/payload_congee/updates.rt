@@ -3,7 +3,7 @@ ghost use Rattle.std.specs.Prelude.{◌≡◌, ◌⊎◌, ℕ, IfOk, IfErr, IfSo
 ghost use Rattle.live_updates.specs.Entries.{removed};
 ghost use Rattle.live_updates.specs.Refusals.{FoundNone, Refused};
 ghost use Rattle.live_slots.specs.Tickets.{HasIssued, IsNew};
-ghost use Rattle.live_payloads.specs.Payloads.{IsGuardOf, KnowsMore, IsPayloadOf, FindsPayload, InsertsPayload, lent_value};
+ghost use Rattle.live_payloads.specs.Payloads.{IsGuardOf, KnowsMore, IsLoanOf, FindsPayload, InsertsPayload};
 
 use super::PayloadCongee;
 use crate::guard::PayloadGuard;
@@ -63,7 +63,7 @@ impl<K: Word, P: Drop> PayloadCongee<K, P> {
         requires map { IsGuardOf self.now guard.old }
         ensures map { KnowsMore guard.old guard.new }
         ensures tickets { guard.new.tickets ≡ guard.old.tickets }
-        ensures payload { IsPayloadOf guard.new.log previous (lent_value result) }
+        ensures payload { IsLoanOf guard.new.log previous result }
         ensures table { IfSome result (λ lent. lent.table ≡ self.now.table) }
     {
         let lent = self.slots.retire(rt, previous?);
@@ -85,7 +85,7 @@ impl<K: Word, P: Drop> PayloadCongee<K, P> {
         requires map { IsGuardOf self.now guard.old }
         ensures map { KnowsMore guard.old guard.new }
         ensures made { IfOk result (λ before.
-            InsertsPayload (K.number key) payload guard.old (lent_value before) guard.new) }
+            InsertsPayload (K.number key) payload guard.old before guard.new) }
         ensures table { IfOk result (λ before. IfSome before (λ lent. lent.table ≡ self.now.table)) }
         ensures refused { IfErr result (λ refused. (guard.new.tickets ≡ guard.old.tickets)
             ⊎ Refused guard.old.tickets (K.number key) refused.0 guard.new.tickets) }
@@ -114,7 +114,7 @@ impl<K: Word, P: Drop> PayloadCongee<K, P> {
         requires map { IsGuardOf self.now guard.old }
         ensures map { KnowsMore guard.old guard.new }
         ensures made { IfOk result (λ before.
-            InsertsPayload (K.number key) payload guard.old (lent_value before) guard.new) }
+            InsertsPayload (K.number key) payload guard.old before guard.new) }
         ensures table { IfOk result (λ before. IfSome before (λ lent. lent.table ≡ self.now.table)) }
         ensures refused { OnErr result ((guard.new.tickets ≡ guard.old.tickets)
             ⊎ FoundNone guard.old.tickets (K.number key) guard.new.tickets) }
@@ -145,7 +145,7 @@ impl<K: Word, P: Drop> PayloadCongee<K, P> {
         ensures map { KnowsMore guard.old guard.new }
         ensures made { IfOk result (λ before.
             FindsPayload (removed guard.old.tickets.caller (K.number key.now))
-            guard.old.tickets guard.new (lent_value before)) }
+            guard.old.tickets guard.new before) }
         ensures table { IfOk result (λ before. IfSome before (λ lent. lent.table ≡ self.now.table)) }
         ensures busy { OnErr result (guard.new ≡ guard.old) }
     {
@@ -163,7 +163,7 @@ impl<K: Word, P: Drop> PayloadCongee<K, P> {
         requires map { IsGuardOf self.now guard.old }
         ensures map { KnowsMore guard.old guard.new }
         ensures made { FindsPayload (removed guard.old.tickets.caller (K.number key.now))
-            guard.old.tickets guard.new (lent_value result) }
+            guard.old.tickets guard.new result }
         ensures table { IfSome result (λ lent. lent.table ≡ self.now.table) }
     {
         let pause = Backoff::new();

@@ -1,14 +1,16 @@
 -- What a seat learns at one moment of many keys.
-use Rattle.std.specs.Prelude.{◌≡◌, ◌≢◌, ℕ, ◌+◌, ◌-◌, ◌*◌, ◌%◌, ◌<◌, ◌≤◌, true, nat_eq, List, [], Option, Some, None}
+use Rattle.std.specs.Prelude.{◌≡◌, ◌≢◌, ℕ, ◌+◌, ◌-◌, ◌*◌, ◌<◌, ◌≤◌, Bool, nat_eq, List, [], Option, Some, None}
 use Rattle.spec_map.specs.Map.{Pairs, lookup}
 use Rattle.spec_node.specs.TableNode.{Child}
 use Rattle.spec_node.specs.declared.child.Child.TheVariants as below
 use Rattle.share_rule.specs.History.{Entry, StartsWith, entries_of, IsHistory, IsLegalHistory}
+use Rattle.live_layout.specs.Order.{IsFrom}
 use Rattle.live_nodes.specs.Seats.{Place, SeatView, IsIn}
 use Rattle.live_law.specs.Levels.{up, digit, name_of, Covers, Shape, Spot}
 use Rattle.live_law.specs.Views.{Watch, View, view_of}
 use Rattle.live_law.specs.Tree.{IsOfKind, IsOf}
 use Rattle.live_scans.specs.Scans.{HasRead}
+use Rattle.live_scans.specs.inner.Directions.{low_of, high_of, EndsLeaf}
 
 -- MORE WAS SEEN: what was seen is a beginning of it, and has all of the caller's entries. It is legal, if what was seen is.
 pub record SeesMore (new : List (Entry ℕ)) (caller : ℕ) (old : List (Entry ℕ)) : Type 0 where
@@ -52,14 +54,14 @@ IsWithin height key b k = (up height k ≡ up height key) × (digit height key �
 abbrev pub IsBeside : ℕ → ℕ → ℕ → ℕ → ℕ → Type 0
 IsBeside height key at b k = (up (height - 1) k ≡ up (height - 1) key) × (up (at - 1) k ≢ 256 * up at key + b)
 
--- THE SEAT READ ON: these keys, and found these pairs.
-pub record ReadsOn (caller : ℕ) (v w : SeatView View) (low high : ℕ) (pairs : Pairs ℕ) : Type 0 where
+-- THE SEAT READ these keys, upwards (true) or downwards, and found these pairs.
+pub record Reads (up : Bool) (caller : ℕ) (v w : SeatView View) (low high : ℕ) (pairs : Pairs ℕ) : Type 0 where
   pub fits : SeesMore w.client.seen caller v.client.seen
   pub legal : IsLegalHistory nat_eq w.client.seen
-  pub read : HasRead true v.client.seen w.client.seen low high pairs
+  pub read : HasRead up v.client.seen w.client.seen low high pairs
 
--- It read on to a key, and found nothing. That is the last key of a leaf, whether there is one or not.
-pub record IsPassed (caller : ℕ) (v w : SeatView View) (key last : ℕ) : Type 0 where
-  pub low : key ≤ last
-  pub seam : (last + 1) % 256 ≡ 0
-  pub reads : ReadsOn caller v w key (last + 1) []
+-- It read from a key to another, and found nothing. The other one is the last of a leaf, whether there is one or not.
+pub record IsPassed (up : Bool) (caller : ℕ) (v w : SeatView View) (key to : ℕ) : Type 0 where
+  pub order : IsFrom up key to
+  pub seam : EndsLeaf up to
+  pub reads : Reads up caller v w (low_of up key to) (high_of up key to) []

@@ -13,54 +13,55 @@ use Rattle.live_law.specs.Levels.{up, digit, Shape, Spot, name_of, Covers, place
 use Rattle.live_law.specs.Views.{View, Watch}
 use Rattle.live_law.specs.Tree.{IsOf}
 use Rattle.live_reads.specs.Paths.{Names, Sights, HasOpened, IsOpen}
-use Rattle.live_scans.specs.inner.Moments.{IsWithin, IsPassed, ReadsOn}
+use Rattle.live_scans.specs.inner.Moments.{IsWithin, IsPassed, Reads}
+use Rattle.live_scans.specs.declared.position.Position.{Position}
 use Rattle.live_scans.specs.declared.next.Turn.{Turn}
 use Rattle.live_scans.specs.declared.next.Turn.TheVariants.{Past, Goes}
 
 -- The node is open, and its child nearest to the key's byte was read.
-pub record IsNear (v : SeatView View) (b : Book) (words : List Name) (taken name key height : ℕ) (found : Option (ℕ × ℕ)) : Type 0 where
-  pub here : IsOpen v b words taken name key height
-  pub near : (c : Content) (n : TableNode ℕ) → Agree c here.opened.saw → Encodes c n → n.form ≡ here.names.spot.shape.form → HasNearest true n.children (digit height key) found
+pub record IsNear (v : SeatView View) (b : Book) (words : List Name) (taken : ℕ) (s : Position) (found : Option (ℕ × ℕ)) : Type 0 where
+  pub here : IsOpen v b words taken s.name s.key s.height
+  pub near : (c : Content) (n : TableNode ℕ) → Agree c here.opened.saw → Encodes c n → n.form ≡ here.names.spot.shape.form → HasNearest true n.children (digit s.height s.key) found
 
 -- A node that the seat has met is open, and its head was read: if that is current, it has that height, and this key.
-pub record HasHead (v : SeatView View) (b : Book) (name height first : ℕ) (words : List Name) (taken : ℕ) : Type 0 where
-  pub sighted : Sights v name
+pub record HasHead (v : SeatView View) (b : Book) (d : Position) (words : List Name) (taken : ℕ) : Type 0 where
+  pub sighted : Sights v d.name
   pub opened : HasOpened v b words taken sighted.spot
   pub even : taken % 4 ≡ 0
-  pub head : (a : Spot) (s : Shape) → IsOf a s opened.saw → (s.height ≡ height) × Covers s first
+  pub head : (a : Spot) (s : Shape) → IsOf a s opened.saw → (s.height ≡ d.height) × Covers s d.key
 
 -- The nearest child of an open node is open, too, and watched there.
-pub record IsNext (v : SeatView View) (b : Book) (words : List Name) (taken name key height byte word : ℕ) (below low first : ℕ) (others : List Name) (other : ℕ) : Type 0 where
-  pub names : Names v name key height
+pub record IsNext (v : SeatView View) (b : Book) (words : List Name) (taken : ℕ) (s : Position) (e : ℕ × ℕ) (d : Position) (others : List Name) (other : ℕ) : Type 0 where
+  pub names : Names v s.name s.key s.height
   pub are : AreOf (place_at names.spot) b words
   pub saw : List (ℕ × ℕ)
   pub reads : read_of names.spot.number v.reads ≡ Some (read names.spot.number taken saw)
   pub free : taken % 4 ≡ 0
-  pub sure : (s : Shape) → IsOf names.spot s saw → s ≡ names.spot.shape
-  pub near : (c : Content) (n : TableNode ℕ) → Agree c saw → Encodes c n → n.form ≡ names.spot.shape.form → HasNearest true n.children (digit height key) (Some (byte, word))
-  pub child : HasHead v b below low first others other
+  pub sure : (shape : Shape) → IsOf names.spot shape saw → shape ≡ names.spot.shape
+  pub near : (c : Content) (n : TableNode ℕ) → Agree c saw → Encodes c n → n.form ≡ names.spot.shape.form → HasNearest true n.children (digit s.height s.key) (Some e)
+  pub child : HasHead v b d others other
   pub watch : Watch
   pub known : IsIn watch v.client.watched
   pub above : watch.above ≡ names.spot.number
   pub free_by : watch.word ≡ Some taken
-  pub spells : (s : ℕ) → IsWord word (Node s) → s ≡ name_of watch.spot.shape
-  pub low_is : watch.spot.shape.height ≡ low
-  pub covers : Covers watch.spot.shape first
+  pub spells : (name : ℕ) → IsWord e.1 (Node name) → name ≡ name_of watch.spot.shape
+  pub low_is : watch.spot.shape.height ≡ d.height
+  pub covers : Covers watch.spot.shape d.key
 
--- keys that begin like this one down to a height, and have there a byte from its own up to this one, but don't begin like the
--- node with that height and that key
-abbrev pub IsOutside : ℕ → ℕ → ℕ → ℕ → ℕ → ℕ → Type 0
-IsOutside height key byte low first k = IsWithin height key byte k × (up low k ≢ up low first)
+-- keys that begin like this node's down to its height, and have there a byte from the key's own up to this one, but don't begin
+-- like the other node
+abbrev pub IsOutside : Position → ℕ → Position → ℕ → Type 0
+IsOutside s byte d k = IsWithin s.height s.key byte k × (up d.height k ≢ up d.height d.key)
 
 -- Keys are passed that aren't there, or a node is next, before whose key none is.
-abbrev pub Chooses : ℕ → ℕ → ℕ → ℕ → ℕ → ℕ → Option Turn → Type 0
-Chooses height key byte below low first None = Unit {0}
-Chooses height key byte below low first (Some (Past last)) = (key ≤ last) × ((last + 1) % 256 ≡ 0) × ((k : ℕ) → key ≤ k → k < last + 1 → IsOutside height key byte low first k)
-Chooses height key byte below low first (Some (Goes c)) = (c.name ≡ below) × (c.height ≡ low) × (1 ≤ low) × (low < height) × (key ≤ c.first) × ((c.first % 256 ≡ 0) ⊎ (key ≡ c.first)) × (up low c.first ≡ up low first)
-    × ((k : ℕ) → key ≤ k → k < c.first → IsOutside height key byte low first k)
+abbrev pub Chooses : Position → ℕ → Position → Option Turn → Type 0
+Chooses s byte d None = Unit {0}
+Chooses s byte d (Some (Past last)) = (s.key ≤ last) × ((last + 1) % 256 ≡ 0) × ((k : ℕ) → s.key ≤ k → k < last + 1 → IsOutside s byte d k)
+Chooses s byte d (Some (Goes c)) = (c.name ≡ d.name) × (c.height ≡ d.height) × (1 ≤ d.height) × (d.height < s.height) × (s.key ≤ c.key) × ((c.key % 256 ≡ 0) ⊎ (s.key ≡ c.key)) × (up d.height c.key ≡ up d.height d.key)
+    × ((k : ℕ) → s.key ≤ k → k < c.key → IsOutside s byte d k)
 
 -- What a seat knows then.
-abbrev pub Turns : ℕ → SeatView View → SeatView View → ℕ → ℕ → Option Turn → Type 0
-Turns caller v w key height None = Unit {0}
-Turns caller v w key height (Some (Past last)) = IsPassed caller v w key last
-Turns caller v w key height (Some (Goes c)) = (1 ≤ c.height) × (c.height < height) × (key ≤ c.first) × ((c.first % 256 ≡ 0) ⊎ (key ≡ c.first)) × Names w c.name c.first c.height × ReadsOn caller v w key c.first []
+abbrev pub Turns : ℕ → SeatView View → SeatView View → Position → Option Turn → Type 0
+Turns caller v w s None = Unit {0}
+Turns caller v w s (Some (Past last)) = IsPassed true caller v w s.key last
+Turns caller v w s (Some (Goes c)) = (1 ≤ c.height) × (c.height < s.height) × (s.key ≤ c.key) × ((c.key % 256 ≡ 0) ⊎ (s.key ≡ c.key)) × Names w c.name c.key c.height × Reads true caller v w s.key c.key []

@@ -91,11 +91,24 @@ fn each_pair_is_popped_once(rt: HostRuntime) -> Result<(), Fail> {
 
 type Numbers = PayloadCongee<u64, u64>;
 
-// Adds one to the key's number.
-fn add<R: Wait>(rt: &R, alloc: Global, map: &Numbers, guard: &mut PayloadGuard<u64>) -> bool
+// Adds one to the key's number. A call that stores takes an absent key for 0.
+fn add<R: Wait>(
+    rt: &R,
+    alloc: Global,
+    map: &Numbers,
+    guard: &mut PayloadGuard<u64>,
+    stores: bool,
+) -> bool
     requires { IsGuardOf map.now guard.old }
     ensures { IsGuardOf map.now guard.new }
 {
+    if stores {
+        let mut f = |number: Option<&u64>| match number {
+            Some(number) => number.wrapping_add(1),
+            None => 1,
+        };
+        return map.compute_or_insert(rt, alloc, guard, &5, &mut f).is_ok();
+    }
     let mut f = |number: &u64| Some(number.wrapping_add(1));
     match map.compute_if_present(rt, alloc, guard, &5, &mut f) {
         Ok(before) => before.is_some(),
@@ -103,10 +116,10 @@ fn add<R: Wait>(rt: &R, alloc: Global, map: &Numbers, guard: &mut PayloadGuard<u
     }
 }
 
-fn added<R: Wait>(rt: &R, alloc: Global, map: &Numbers) -> bool {
+fn added<R: Wait>(rt: &R, alloc: Global, map: &Numbers, stores: bool) -> bool {
     let mut guard = map.pin();
     for _ in 0..TURNS {
-        if !add(rt, alloc, map, &mut guard) {
+        if !add(rt, alloc, map, &mut guard, stores) {
             return false;
         }
     }
@@ -114,27 +127,27 @@ fn added<R: Wait>(rt: &R, alloc: Global, map: &Numbers) -> bool {
     true
 }
 
-// The key's number.
-fn number<R: Wait>(rt: &R, map: &Numbers) -> Option<u64> {
+// The key's number after two threads have added to it, from 0 or from an absent key on.
+fn sum_of<R: Threads + Wait + Sync>(rt: &R, alloc: Global, stores: bool) -> Option<u64> {
+    let map: Numbers = PayloadCongee::new(alloc).ok()?;
     let mut guard = map.pin();
+    if !stores {
+        map.insert(rt, alloc, &mut guard, 5, 0).ok()?;
+    }
+    let (a, b) = join(
+        rt,
+        || added(rt, alloc, &map, stores),
+        || added(rt, alloc, &map, stores),
+    );
+    if !a || !b {
+        return None;
+    }
     let lent = map.get(rt, &mut guard, &5)?;
     Some(*lent.get())
 }
 
-fn begun<R: Wait>(rt: &R, alloc: Global, map: &Numbers) -> bool {
-    let mut guard = map.pin();
-    map.insert(rt, alloc, &mut guard, 5, 0).is_ok()
-}
-
 #[test]
-fn no_addition_is_lost(rt: HostRuntime) -> Result<(), Fail> {
-    let map: Numbers = PayloadCongee::new(rt.alloc())?;
-    assert!(rt; begun(&rt, rt.alloc(), &map));
-    let (a, b) = join(
-        &rt,
-        || added(&rt, rt.alloc(), &map),
-        || added(&rt, rt.alloc(), &map),
-    );
-    assert!(rt; a && b && number(&rt, &map) == Some(TURNS.wrapping_mul(2)));
-    Ok(())
+fn no_addition_is_lost(rt: HostRuntime) {
+    assert!(rt; sum_of(&rt, rt.alloc(), false) == Some(TURNS.wrapping_mul(2)));
+    assert!(rt; sum_of(&rt, rt.alloc(), true) == Some(TURNS.wrapping_mul(2)));
 }

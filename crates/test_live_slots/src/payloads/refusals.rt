@@ -2,6 +2,7 @@
 ghost use Rattle.live_payloads.specs.Payloads.{IsGuardOf};
 
 use super::{Guard, Map, get};
+use live_payloads::live::{PayloadCongee, PayloadGuard};
 use std::alloc::Global;
 use std::sync::{Arc, Wait};
 
@@ -166,4 +167,74 @@ fn refused_memory_loses_no_payload(rt: HostRuntime) {
 #[test]
 fn refused_memory_loses_no_computed_payload(rt: HostRuntime) {
     assert!(rt; kept(&rt, rt.alloc(), false) == Some(COUNT));
+}
+
+type Numbers = PayloadCongee<u64, u64>;
+
+// Stores 5 at an absent key, also where memory is refused once: the error has the 5 then.
+fn stored<R: Wait>(
+    rt: &R,
+    alloc: Global,
+    map: &Numbers,
+    guard: &mut PayloadGuard<u64>,
+    key: u64,
+) -> bool
+    requires { IsGuardOf map.now guard.old }
+    ensures { IsGuardOf map.now guard.new }
+{
+    let mut f = |number: Option<&u64>| if number.is_none() { 5 } else { 6 };
+    match map.compute_or_insert(rt, alloc, guard, &key, &mut f) {
+        Ok(before) => return before.is_none(),
+        Err(failed) => {
+            if failed.value != 5 {
+                return false;
+            }
+        }
+    }
+    match map.compute_or_insert(rt, alloc, guard, &key, &mut f) {
+        Ok(before) => before.is_none(),
+        Err(_) => false,
+    }
+}
+
+// Stores 5 at keys far from one another, which are absent: how many have it then.
+fn stored_at<R: Wait>(rt: &R, alloc: Global, map: &Numbers, guard: &mut PayloadGuard<u64>) -> u64
+    requires { IsGuardOf map.now guard.old }
+    ensures { IsGuardOf map.now guard.new }
+{
+    let mut found = 0u64;
+    let mut key = 3u64;
+    for _ in 0..COUNT {
+        if stored(rt, alloc, map, guard, key) {
+            found = found.wrapping_add(1);
+        }
+        key = key.wrapping_add(STEP);
+    }
+    found
+}
+
+// A map of numbers, also where memory is refused once.
+fn made_of_numbers(alloc: Global) -> Option<Numbers> {
+    match PayloadCongee::new(alloc) {
+        Ok(map) => Some(map),
+        Err(_) => PayloadCongee::new(alloc).ok(),
+    }
+}
+
+// How many keys have a number, if there are as many pairs.
+fn all_stored<R: Wait>(rt: &R, alloc: Global) -> Option<u64> {
+    let map = made_of_numbers(alloc)?;
+    let mut guard = map.pin();
+    let found = stored_at(rt, alloc, &map, &mut guard);
+    if map.value_count(rt, &mut guard) != found as u128 {
+        return None;
+    }
+    map.unpin(guard);
+    Some(found)
+}
+
+// It passes whichever allocation is refused.
+#[test]
+fn refused_memory_stores_what_was_computed_later(rt: HostRuntime) {
+    assert!(rt; all_stored(&rt, rt.alloc()) == Some(COUNT));
 }

@@ -1,45 +1,51 @@
 //! Budgets: what is charged, what is refused, and the pairs after a refusal.
 
-use super::asserts::{assert_number, assert_old, assert_put, assert_test};
 use super::counted::{Counted, Counts};
-use super::rows::{Wanted, assert_rows};
+use super::rows::{Wanted, wrong_row};
 use congee_owned::{Budget, Congee, CongeeArc, OOMError, U64Congee};
 use face_runs::calls::Call;
 use std::alloc::Global;
-use std::process::Abort;
 use std::sync::Arc;
 use std::test::Fail;
 
 // A call with what it has to return.
 type Row = (Call<u64, u64>, Wanted<'static, u64, u64>);
 
-#[test]
-fn no_memory_for_a_leaf(rt: HostRuntime) -> Result<(), Fail> {
-    let mut map = Congee::new(rt.alloc(), Budget::new(2104))?;
+// Whether a computation is refused, and its closure not called.
+fn refuses_a_computation(map: &mut Congee<u64, u64, Budget>) -> bool {
     let mut called = false;
     let mut note = |_standing: Option<u64>| -> u64 {
         called = true;
         7
     };
-    let answer = map.compute_or_insert(100, &mut note);
-    assert_put(&rt, 100, answer, Err(OOMError::new()));
-    assert_test(&rt, called, false);
-    const ROWS: [Row; 2] = [
-        (Call::Insert(100, 100), Wanted::Refused),
-        (Call::IsEmpty, Wanted::Tested(true)),
-    ];
-    assert_rows(&rt, rt.alloc(), &mut map, &ROWS);
-    assert_number(&rt, map.charged(), 2104);
+    let is_refused = map.compute_or_insert(100, &mut note).is_err();
+    is_refused && !called
+}
+
+const NO_LEAF: [Row; 2] = [
+    (Call::Insert(100, 100), Wanted::Refused),
+    (Call::IsEmpty, Wanted::Tested(true)),
+];
+
+fn refuses_a_leaf(alloc: Global, map: &mut Congee<u64, u64, Budget>) -> bool {
+    refuses_a_computation(map) && wrong_row(alloc, map, &NO_LEAF).is_none() && map.charged() == 2104
+}
+
+#[test]
+fn no_memory_for_a_leaf(rt: HostRuntime) -> Result<(), Fail> {
+    let alloc = rt.alloc();
+    assert!(rt; refuses_a_leaf(alloc, &mut Congee::new(alloc, Budget::new(2104))?));
     Ok(())
+}
+
+fn has_no_root(alloc: Global) -> bool {
+    let none: Result<Congee<u64, u64, Budget>, OOMError> = Congee::new(alloc, Budget::new(2103));
+    none.is_err()
 }
 
 #[test]
 fn no_memory_for_the_root(rt: HostRuntime) {
-    let none: Result<Congee<u64, u64, Budget>, OOMError> = Congee::new(
-        rt.alloc(),
-        Budget::new(2103),
-    );
-    assert_test(&rt, none.is_err(), true);
+    assert!(rt; has_no_root(rt.alloc()));
 }
 
 type CountedMap<'a> = Congee<u64, u64, Counted<'a>>;
@@ -62,101 +68,87 @@ fn insert_by(
     (result, calls)
 }
 
-// Makes the insertion of a new key with so many requests granted, and returns whether they were enough.
+// Makes the insertion of a new key with so many requests granted. Whether they are enough, `None` if a result, what is
+// stored, what is charged or the number of the closure's calls isn't right.
 fn is_enough(
-    rt: &impl Abort,
     map: &mut CountedMap<'_>,
     counts: &Counts,
     key: u64,
     computes: bool,
     granted: u64,
-) -> bool {
+) -> Option<bool> {
     let before = counts.charged();
     counts.grant(granted);
     let (result, calls) = insert_by(map, key, computes);
     let after = counts.charged();
-    assert_number(rt, map.charged(), u128::from(after));
-    let enough = result.is_ok();
-    let (wanted, at_key, called) = if enough {
-        (Ok(None), Some(key), computes)
-    } else {
-        assert_number(rt, u128::from(after), u128::from(before));
-        (Err(OOMError::new()), None, false)
-    };
-    assert_put(rt, key, result, wanted);
-    assert_old(rt, key, map.get(&key), at_key);
-    assert_number(rt, u128::from(calls), u128::from(called));
-    enough
+    let right = map.charged() == u128::from(after)
+        && match result {
+            Ok(old) => old.is_none() && map.get(&key) == Some(key) && calls == u8::from(computes),
+            Err(_) => after == before && map.get(&key).is_none() && calls == 0,
+        };
+    if right { Some(result.is_ok()) } else { None }
 }
 
 // Makes the insertion of a new key again and again, its first request refused, then its second and so on, until all are
-// granted. Returns how many it made.
-fn requests_of(
-    rt: &impl Abort,
-    map: &mut CountedMap<'_>,
-    counts: &Counts,
-    key: u64,
-    computes: bool,
-) -> u64 {
+// granted. Returns how many it made, `None` if one isn't right.
+fn requests_of(map: &mut CountedMap<'_>, counts: &Counts, key: u64, computes: bool) -> Option<u64> {
     for granted in 0..8 {
-        if is_enough(rt, map, counts, key, computes, granted) {
-            return granted;
+        if is_enough(map, counts, key, computes, granted)? {
+            return Some(granted);
         }
     }
-    8
+    None
 }
 
-// Insertions that take each kind of memory, and calls that take none.
-fn assert_requests(rt: &impl Abort, map: &mut CountedMap<'_>, counts: &Counts, computes: bool) {
-    // a leaf; none; a split; a leaf in a node with room, which is then full; a leaf and growth; growth of a leaf
-    const ROWS: [(u64, u64); 9] = [
-        (0, 1),
-        (1, 0),
-        (256, 2),
-        (512, 1),
-        (768, 1),
-        (1024, 2),
-        (2, 0),
-        (3, 0),
-        (4, 1),
-    ];
-    for (key, wanted) in ROWS {
-        let asked = requests_of(rt, map, counts, key, computes);
-        assert_old(rt, key, Some(asked), Some(wanted));
+// Keys that are inserted, and how many requests each makes: a leaf; none; a split; a leaf in a node with room, which is
+// then full; a leaf and growth; growth of a leaf.
+const REQUESTS: [(u64, u64); 9] = [
+    (0, 1),
+    (1, 0),
+    (256, 2),
+    (512, 1),
+    (768, 1),
+    (1024, 2),
+    (2, 0),
+    (3, 0),
+    (4, 1),
+];
+
+// The first key whose insertion isn't right, if there is one.
+fn wrong_insertion(map: &mut CountedMap<'_>, counts: &Counts, computes: bool) -> Option<u64> {
+    for (key, wanted) in REQUESTS {
+        if requests_of(map, counts, key, computes) != Some(wanted) {
+            return Some(key);
+        }
     }
+    None
 }
 
-// What takes no memory is never refused.
-fn assert_never_refused(rt: &impl Abort, alloc: Global, map: &mut CountedMap<'_>, counts: &Counts) {
+const NEVER_REFUSED: [Row; 4] = [
+    (Call::Insert(2, 9), Wanted::Old(Some(2))),
+    (
+        Call::CompareExchange(2, 9, Some(2)),
+        Wanted::Exchanged(Ok(Some(2))),
+    ),
+    (
+        Call::ComputeIfPresent(2, None),
+        Wanted::Computed(Some((2, None))),
+    ),
+    (Call::Remove(1024), Wanted::Old(Some(1024))),
+];
+
+// Whether calls that take no memory aren't refused.
+fn are_never_refused(alloc: Global, map: &mut CountedMap<'_>, counts: &Counts) -> bool {
     counts.grant(0);
-    const ROWS: [Row; 4] = [
-        (Call::Insert(2, 9), Wanted::Old(Some(2))),
-        (
-            Call::CompareExchange(2, 9, Some(2)),
-            Wanted::Exchanged(Ok(Some(2))),
-        ),
-        (
-            Call::ComputeIfPresent(2, None),
-            Wanted::Computed(Some((2, None))),
-        ),
-        (Call::Remove(1024), Wanted::Old(Some(1024))),
-    ];
-    assert_rows(rt, alloc, map, &ROWS);
-    assert_number(rt, map.charged(), u128::from(counts.charged()));
+    wrong_row(alloc, map, &NEVER_REFUSED).is_none() && map.charged() == u128::from(counts.charged())
 }
 
-// Each request of a map is refused once, and all that is charged is uncharged at its drop.
-fn assert_each(
-    rt: &impl Abort,
-    alloc: Global,
-    counts: &Counts,
-    computes: bool,
-) -> Result<(), OOMError> {
+// Whether each request of a map is refused once, and calls that make none aren't refused.
+fn has_requests(alloc: Global, counts: &Counts, computes: bool) -> Result<bool, OOMError> {
     counts.grant(1);
     let mut map = Congee::new(alloc, Counted { counts })?;
-    assert_requests(rt, &mut map, counts, computes);
-    assert_never_refused(rt, alloc, &mut map, counts);
-    Ok(())
+    let wrong = wrong_insertion(&mut map, counts, computes);
+    Ok(wrong.is_none() && are_never_refused(alloc, &mut map, counts))
 }
 
 fn is_refused(alloc: Global, counts: &Counts) -> bool {
@@ -165,15 +157,17 @@ fn is_refused(alloc: Global, counts: &Counts) -> bool {
     refused.is_err()
 }
 
+// Whether each request is refused once, the root's too, and all that is charged is uncharged at the map's drop.
+fn are_uncharged(alloc: Global, computes: bool) -> Result<bool, OOMError> {
+    let counts = Counts::new();
+    let root = is_refused(alloc, &counts) && counts.charged() == 0;
+    Ok(has_requests(alloc, &counts, computes)? && root && counts.charged() == 0)
+}
+
 #[test]
 fn each_request_refused(rt: HostRuntime) -> Result<(), Fail> {
-    let counts = Counts::new();
-    for computes in [false, true] {
-        assert_test(&rt, is_refused(rt.alloc(), &counts), true);
-        assert_number(&rt, u128::from(counts.charged()), 0);
-        assert_each(&rt, rt.alloc(), &counts, computes)?;
-        assert_number(&rt, u128::from(counts.charged()), 0);
-    }
+    assert!(rt; are_uncharged(rt.alloc(), false)?);
+    assert!(rt; are_uncharged(rt.alloc(), true)?);
     Ok(())
 }
 

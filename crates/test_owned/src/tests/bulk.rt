@@ -4,7 +4,6 @@ mod faces;
 mod kept;
 mod slices;
 
-use super::asserts::{assert_number, assert_pairs, assert_test};
 use super::walks::Notes;
 use congee_owned::{Budget, Congee, DefaultAllocator, InsertManyError, OOMError};
 use std::alloc::Global;
@@ -91,9 +90,14 @@ fn called_at_drop(alloc: Global) -> Result<Vec<(u64, u64)>, OOMError> {
     Ok(reported.into_inner())
 }
 
+fn has_two_left(alloc: Global) -> Result<bool, OOMError> {
+    let called = called_at_drop(alloc)?;
+    Ok(called.as_slice() == [(17, 17), (18, 18)].as_slice())
+}
+
 #[test]
 fn the_drainer_has_what_is_left(rt: HostRuntime) -> Result<(), Fail> {
-    assert_pairs(&rt, 0, &called_at_drop(rt.alloc())?, &[(17, 17), (18, 18)]);
+    assert!(rt; has_two_left(rt.alloc())?);
     Ok(())
 }
 
@@ -260,22 +264,29 @@ const LIMITS: [Limit; 4] = [
     (2360, Ok(()), [Some(11), Some(21), Some(30), Some(40)]),
 ];
 
+fn has_values(map: &Limited, wanted: &[Option<u64>; 4]) -> bool {
+    [map.get(&1), map.get(&2), map.get(&256), map.get(&512)] == *wanted
+}
+
 fn inserts_six(map: &mut Limited, limit: &Limit) -> bool {
-    map.insert_many(&SIX) == limit.1
-        && [map.get(&1), map.get(&2), map.get(&256), map.get(&512)] == limit.2
+    map.insert_many(&SIX) == limit.1 && has_values(map, &limit.2)
 }
 
 // Whether `insert_numbers` of the six pairs returns what it has to under this limit, and stores what it has to.
 fn inserts_numbers(map: &mut Limited, limit: &Limit) -> bool {
-    map.insert_numbers(&SIX) == limit.1
-        && [map.get(&1), map.get(&2), map.get(&256), map.get(&512)] == limit.2
+    map.insert_numbers(&SIX) == limit.1 && has_values(map, &limit.2)
+}
+
+fn inserts_by_both(alloc: Global, limit: &Limit) -> Result<bool, OOMError> {
+    let six = inserts_six(&mut Congee::new(alloc, Budget::new(limit.0))?, limit);
+    let numbers = inserts_numbers(&mut Congee::new(alloc, Budget::new(limit.0))?, limit);
+    Ok(six && numbers)
 }
 
 #[test]
 fn many_inserted(rt: HostRuntime) -> Result<(), Fail> {
     for limit in &LIMITS {
-        assert!(rt; inserts_six(&mut Congee::new(rt.alloc(), Budget::new(limit.0))?, limit));
-        assert!(rt; inserts_numbers(&mut Congee::new(rt.alloc(), Budget::new(limit.0))?, limit));
+        assert!(rt; inserts_by_both(rt.alloc(), limit)?);
     }
     Ok(())
 }
@@ -295,12 +306,13 @@ fn error_prints(alloc: Global) -> Result<bool, Fail> {
     Ok(text.as_str() == ERROR)
 }
 
+fn refuses_six(map: &mut Limited) -> bool {
+    insert_all(map, &SIX).is_err() && insert_all(map, &[]).is_ok() && map.charged() == 2104
+}
+
 #[test]
 fn many_are_refused(rt: HostRuntime) -> Result<(), Fail> {
-    let mut map = Congee::new(rt.alloc(), Budget::new(2104))?;
-    assert_test(&rt, insert_all(&mut map, &SIX).is_err(), true);
-    assert_test(&rt, insert_all(&mut map, &[]).is_err(), false);
-    assert_number(&rt, map.charged(), 2104);
-    assert_test(&rt, error_prints(rt.alloc())?, true);
+    assert!(rt; refuses_six(&mut Congee::new(rt.alloc(), Budget::new(2104))?));
+    assert!(rt; error_prints(rt.alloc())?);
     Ok(())
 }

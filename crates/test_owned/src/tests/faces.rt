@@ -2,13 +2,11 @@
 
 ghost use Rattle.std.specs.Prelude.{◌*◌, ◌/◌, ◌%◌, ◌^◌};
 
-use super::asserts::{assert_number, assert_old, assert_put, assert_test};
-use super::rows::{NumberWanted, Wanted, assert_list, assert_number_list};
+use super::rows::{NumberWanted, Wanted, list_right, number_list_right};
 use congee_owned::{Congee, DefaultAllocator, OOMError, Word};
 use face_runs::calls::Call;
 use face_runs::u64_calls::U64Call;
 use std::alloc::Global;
-use std::process::Abort;
 use std::test::Fail;
 
 /// Written as its value divided by two; n is read back as 2n.
@@ -58,7 +56,7 @@ fn keys_with_one_number_are_one_key(rt: HostRuntime) -> Result<(), Fail> {
         (Call::Remove(Tens(10)), Wanted::Old(Some(2))),
         (Call::IsEmpty, Wanted::Tested(true)),
     ];
-    assert_list::<Tens, u64>(&rt, rt.alloc(), &ROWS)?;
+    assert!(rt; list_right::<Tens, u64>(rt.alloc(), &ROWS)?);
     Ok(())
 }
 
@@ -77,7 +75,7 @@ fn exchange_returns_the_handed_value(rt: HostRuntime) -> Result<(), Fail> {
             Wanted::Exchanged(Err(Some(Half(8)))),
         ),
     ];
-    assert_list::<u64, Half>(&rt, rt.alloc(), &ROWS)?;
+    assert!(rt; list_right::<u64, Half>(rt.alloc(), &ROWS)?);
     Ok(())
 }
 
@@ -90,33 +88,42 @@ fn raise(map: &mut Congee<u64, u64>, key: u64, calls: &mut u32) -> Option<(u64, 
     map.compute_if_present(&key, &mut raise)
 }
 
-// A raise at key 1 returns this, and then its value is this.
-fn assert_raised(
-    rt: &impl Abort,
-    map: &mut Congee<u64, u64>,
-    calls: &mut u32,
-    wanted: Option<(u64, Option<u64>)>,
-    current: Option<u64>,
-) {
-    assert_eq!(rt; raise(map, 1, calls), wanted);
-    assert_old(rt, 1, map.get(&1), current);
+/// What a raise at key 1 returns, and then its value.
+type Raised = (Option<(u64, Option<u64>)>, Option<u64>);
+
+const ABSENT: [Raised; 1] = [(None, None)];
+
+const PRESENT: [Raised; 3] = [
+    (Some((u64::MAX - 1, Some(u64::MAX))), Some(u64::MAX)),
+    (Some((u64::MAX, None)), None),
+    (None, None),
+];
+
+// The place of the first raise that isn't right, if there is one.
+fn wrong_raise(map: &mut Congee<u64, u64>, calls: &mut u32, rows: &[Raised]) -> Option<usize> {
+    for place in 0..rows.len() {
+        let (raised, current) = rows[place];
+        if raise(map, 1, calls) != raised || map.get(&1) != current {
+            return Some(place);
+        }
+    }
+    None
+}
+
+// Whether each raise is right before a value is stored and after that, and the closure is called where there is one.
+fn raises(map: &mut Congee<u64, u64>) -> bool {
+    let mut calls = 0u32;
+    let right = [
+        wrong_raise(map, &mut calls, &ABSENT).is_none(),
+        map.insert(1, u64::MAX - 1) == Ok(None),
+        wrong_raise(map, &mut calls, &PRESENT).is_none(),
+    ];
+    right == [true; 3] && calls == 2
 }
 
 #[test]
 fn computes_where_a_key_is_present(rt: HostRuntime) -> Result<(), Fail> {
-    const ROWS: [(Option<(u64, Option<u64>)>, Option<u64>); 3] = [
-        (Some((u64::MAX - 1, Some(u64::MAX))), Some(u64::MAX)),
-        (Some((u64::MAX, None)), None),
-        (None, None),
-    ];
-    let mut calls = 0u32;
-    let mut map: Congee<u64, u64> = Congee::new(rt.alloc(), DefaultAllocator {})?;
-    assert_raised(&rt, &mut map, &mut calls, None, None);
-    assert_put(&rt, 1, map.insert(1, u64::MAX - 1), Ok(None));
-    for (raised, current) in ROWS {
-        assert_raised(&rt, &mut map, &mut calls, raised, current);
-    }
-    assert_number(&rt, u128::from(calls), 2);
+    assert!(rt; raises(&mut Congee::new(rt.alloc(), DefaultAllocator {})?));
     Ok(())
 }
 
@@ -133,15 +140,22 @@ fn raise_or_begin(
     map.compute_or_insert(key, &mut count)
 }
 
+fn begins_and_raises(map: &mut Congee<u64, Half>) -> Result<bool, OOMError> {
+    let mut calls = 0u32;
+    let begun = raise_or_begin(map, 5, &mut calls)?;
+    let raised = raise_or_begin(map, 5, &mut calls)?;
+    let right = begun.is_none() && raised == Some(Half(22)) && map.get(&5) == Some(Half(24));
+    Ok(right && calls == 2)
+}
+
+fn begins_and_raises_on_new_map(alloc: Global) -> Result<bool, OOMError> {
+    let mut map = Congee::new(alloc, DefaultAllocator {})?;
+    begins_and_raises(&mut map)
+}
+
 #[test]
 fn computes_or_inserts(rt: HostRuntime) -> Result<(), Fail> {
-    let mut calls = 0u32;
-    let mut map: Congee<u64, Half> = Congee::new(rt.alloc(), DefaultAllocator {})?;
-    for wanted in [None, Some(Half(22))] {
-        assert_eq!(rt; raise_or_begin(&mut map, 5, &mut calls), Ok(wanted));
-    }
-    assert_eq!(rt; map.get(&5), Some(Half(24)));
-    assert_number(&rt, u128::from(calls), 2);
+    assert!(rt; begins_and_raises_on_new_map(rt.alloc())?);
     Ok(())
 }
 
@@ -185,7 +199,7 @@ fn runs_a_list_of_calls(rt: HostRuntime) -> Result<(), Fail> {
         (Call::Keys, Wanted::Listed(&[Tens(40), Tens(50)])),
         (Call::Range(OTHER, Tens(60), 1), Wanted::Ranged(&[(4, 4)])),
     ];
-    assert_list::<Tens, Half>(&rt, rt.alloc(), &ROWS)?;
+    assert!(rt; list_right::<Tens, Half>(rt.alloc(), &ROWS)?);
     Ok(())
 }
 
@@ -211,7 +225,7 @@ fn runs_a_list_of_calls_by_numbers(rt: HostRuntime) -> Result<(), Fail> {
         (U64Call::Insert(5, Half(9)), NumberWanted::Old(None)),
         (U64Call::Range(4, 6, 8), NumberWanted::Ranged(&PAIRS)),
     ];
-    assert_number_list::<Half>(&rt, rt.alloc(), &ROWS)?;
+    assert!(rt; number_list_right::<Half>(rt.alloc(), &ROWS)?);
     Ok(())
 }
 
@@ -223,6 +237,6 @@ fn reports_it(alloc: Global, error: OOMError, wanted: &str) -> Result<bool, Fail
 #[test]
 fn reports_missing_memory(rt: HostRuntime) -> Result<(), Fail> {
     let text = "Allocator is out of memory!, Allocator is out of memory!";
-    assert_test(&rt, reports_it(rt.alloc(), OOMError::new(), text)?, true);
+    assert!(rt; reports_it(rt.alloc(), OOMError::new(), text)?);
     Ok(())
 }

@@ -2,11 +2,9 @@
 
 ghost use Rattle.std.specs.Prelude.{None};
 
-use super::asserts::{assert_number, assert_old, assert_test};
 use congee_owned::{Allocator, Congee, NodeSize, OOMError};
 use congee_tree::sorted_pairs::SortedPairs;
 use std::alloc::Global;
-use std::process::Abort;
 use std::sync::atomic::{AtomicU64, Ordering};
 use std::test::Fail;
 
@@ -69,38 +67,51 @@ fn make_plain(plain: &mut SortedPairs<u64>, key: u64, value: u64) -> Option<u64>
     }
 }
 
-// Makes so many calls on both maps; a refused one is made on the first alone. The replies are the same throughout, and
-// the map is charged what its allocator counts. Returns how many calls were refused.
-fn assert_fickle(
-    rt: &impl Abort,
-    map: &mut FickleMap<'_>,
-    plain: &mut SortedPairs<u64>,
-    held: &AtomicU64,
-) -> u64 {
-    let mut refused = 0u64;
-    for value in 0..2000u64 {
-        let key = crowded(value);
-        match make(map, key, value) {
-            Some(before) => assert_old(rt, key, before, make_plain(plain, key, value)),
-            None => refused = refused.wrapping_add(1),
-        }
-        assert_old(rt, key, map.get(&key), plain.get(key).copied());
-        assert_number(rt, map.charged(), u128::from(held.load(Ordering::Relaxed)));
+// Makes the call of this value on both maps, a refused one on the first alone. Whether it was refused, `None` if the
+// replies or the key's values aren't the same.
+fn is_refused(map: &mut FickleMap<'_>, plain: &mut SortedPairs<u64>, value: u64) -> Option<bool> {
+    let key = crowded(value);
+    let made = make(map, key, value);
+    let same = match made {
+        Some(before) => before == make_plain(plain, key, value),
+        None => true,
+    };
+    if same && map.get(&key) == plain.get(key).copied() {
+        Some(made.is_none())
+    } else {
+        None
     }
-    refused
 }
 
-fn refused_by_fickle(rt: &impl Abort, alloc: Global, held: &AtomicU64) -> Result<u64, OOMError> {
+// Makes 2000 calls. How many were refused, `None` if one isn't right, or the map isn't charged what its allocator counts.
+fn refused(map: &mut FickleMap<'_>, plain: &mut SortedPairs<u64>, held: &AtomicU64) -> Option<u64> {
+    let mut refused = 0u64;
+    for value in 0..2000u64 {
+        if is_refused(map, plain, value)? {
+            refused = refused.wrapping_add(1);
+        }
+        if map.charged() != u128::from(held.load(Ordering::Relaxed)) {
+            return None;
+        }
+    }
+    Some(refused)
+}
+
+fn refused_by_fickle(alloc: Global, held: &AtomicU64) -> Result<Option<u64>, OOMError> {
     let requests = &AtomicU64::new(0);
     let mut map = Congee::new(alloc, Fickle { requests, held })?;
-    Ok(assert_fickle(rt, &mut map, &mut SortedPairs::new(alloc), held))
+    Ok(refused(&mut map, &mut SortedPairs::new(alloc), held))
+}
+
+// Whether more than a hundred calls are refused, and all that is charged is uncharged at the map's drop.
+fn is_fickle(alloc: Global) -> Result<bool, OOMError> {
+    let held = AtomicU64::new(0);
+    let refused = refused_by_fickle(alloc, &held)?.unwrap_or(0);
+    Ok(refused > 100 && held.load(Ordering::Relaxed) == 0)
 }
 
 #[test]
 fn every_second_request_refused(rt: HostRuntime) -> Result<(), Fail> {
-    let held = AtomicU64::new(0);
-    let refused = refused_by_fickle(&rt, rt.alloc(), &held)?;
-    assert_test(&rt, refused > 100, true);
-    assert_number(&rt, u128::from(held.load(Ordering::Relaxed)), 0);
+    assert!(rt; is_fickle(rt.alloc())?);
     Ok(())
 }

@@ -69,9 +69,14 @@ fn wrong_size(map: &mut Congee<u64, u64>) -> Result<u64, OOMError> {
     Ok(99)
 }
 
+fn wrong_size_on_new_map(alloc: Global) -> Result<u64, OOMError> {
+    let mut map = Congee::new(alloc, DefaultAllocator {})?;
+    wrong_size(&mut map)
+}
+
 #[test]
 fn each_pair_comes_once(rt: HostRuntime) -> Result<(), Fail> {
-    assert!(rt; wrong_size(&mut Congee::new(rt.alloc(), DefaultAllocator {})?)? == 99);
+    assert!(rt; wrong_size_on_new_map(rt.alloc())? == 99);
     Ok(())
 }
 
@@ -90,9 +95,14 @@ fn wrong_range(map: &mut Congee<u64, u64>) -> Result<u64, OOMError> {
     Ok(99)
 }
 
+fn wrong_range_on_new_map(alloc: Global) -> Result<u64, OOMError> {
+    let mut map = Congee::new(alloc, DefaultAllocator {})?;
+    wrong_range(&mut map)
+}
+
 #[test]
 fn ranges_end_where_they_are_said_to(rt: HostRuntime) -> Result<(), Fail> {
-    assert!(rt; wrong_range(&mut Congee::new(rt.alloc(), DefaultAllocator {})?)? == 99);
+    assert!(rt; wrong_range_on_new_map(rt.alloc())? == 99);
     Ok(())
 }
 
@@ -119,9 +129,14 @@ fn right_by_number(map: &mut U64Congee<u64>) -> Result<bool, OOMError> {
     Ok(sum == 2 && with == 1 && without == 0 && count(map.iter()) == 2)
 }
 
+fn right_by_number_on_new_map(alloc: Global) -> Result<bool, OOMError> {
+    let mut map = U64Congee::new(alloc)?;
+    right_by_number(&mut map)
+}
+
 #[test]
 fn numbers_are_iterated_over(rt: HostRuntime) -> Result<(), Fail> {
-    assert!(rt; right_by_number(&mut U64Congee::new(rt.alloc())?)?);
+    assert!(rt; right_by_number_on_new_map(rt.alloc())?);
     Ok(())
 }
 
@@ -149,8 +164,13 @@ fn right_by_owner(alloc: Global, map: &mut CongeeArc<u64, u64>) -> Result<bool, 
     Ok(all && without && with && digits(map.iter_range(0, 0)) == 0)
 }
 
+fn right_by_owner_on_new_map(alloc: Global) -> Result<bool, Fail> {
+    let mut map = CongeeArc::new(alloc)?;
+    right_by_owner(alloc, &mut map)
+}
+
 #[test]
 fn owners_are_iterated_over(rt: HostRuntime) -> Result<(), Fail> {
-    assert!(rt; right_by_owner(rt.alloc(), &mut CongeeArc::new(rt.alloc())?)?);
+    assert!(rt; right_by_owner_on_new_map(rt.alloc())?);
     Ok(())
 }

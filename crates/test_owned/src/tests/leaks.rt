@@ -166,7 +166,7 @@ fn owners(alloc: Global) -> Result<([usize; 5], usize, u64), OOMError> {
 
 #[test]
 fn owners_are_given_back(rt: HostRuntime) -> Result<(), Fail> {
-    assert_eq!(rt; owners(rt.alloc())?, ([301, 301, 300, 299, 299], 1, 0));
+    assert!(rt; owners(rt.alloc())? == ([301, 301, 300, 299, 299], 1, 0));
     Ok(())
 }
 
@@ -211,7 +211,7 @@ fn owners_after_retain(alloc: Global) -> Result<([usize; 3], usize, u64), OOMErr
 
 #[test]
 fn refused_owners_are_given_back_one_after_another(rt: HostRuntime) -> Result<(), Fail> {
-    assert_eq!(rt; owners_after_retain(rt.alloc())?, ([101, 2, 0], 1, 0));
+    assert!(rt; owners_after_retain(rt.alloc())? == ([101, 2, 0], 1, 0));
     Ok(())
 }
 
@@ -240,8 +240,7 @@ fn owners_after_refusal(alloc: Global, limit: u64) -> Result<(u64, usize), OOMEr
 #[test]
 fn refused_owner_is_dropped(rt: HostRuntime) -> Result<(), Fail> {
     // the leaf, and its growth refused
-    for (limit, wanted) in [(2104, (0, 1)), (2168, (4, 5))] {
-        assert_eq!(rt; owners_after_refusal(rt.alloc(), limit)?, wanted);
-    }
+    assert!(rt; owners_after_refusal(rt.alloc(), 2104)? == (0, 1));
+    assert!(rt; owners_after_refusal(rt.alloc(), 2168)? == (4, 5));
     Ok(())
 }

@@ -3,13 +3,10 @@
 //! Rows are `Copy`. A reply is owned by a helper that returns a `bool` or a number, since each assertion beside an
 //! owned value makes a test more expensive to prove.
 
-use super::asserts::assert_number;
 use congee_owned::{Allocator, Congee, DefaultAllocator, OOMError, U64Congee, Word};
 use face_runs::calls::{Call, Reply, make_call, run_calls};
 use face_runs::u64_calls::{U64Call, U64Reply, run_u64_calls};
 use std::alloc::Global;
-use std::fmt::Debug;
-use std::process::Abort;
 
 /// What a call has to return.
 #[derive(Clone, Copy)]
@@ -50,16 +47,20 @@ fn replies<K: Word + PartialEq, V: Word + PartialEq, A: Allocator>(
     is_wanted(&make_call(alloc, map, call), wanted)
 }
 
-/// Makes the calls of the rows, one after another, and compares what they return.
-pub(super) fn assert_rows<K: Word + Debug + PartialEq, V: Word + Debug + PartialEq, A: Allocator>(
-    rt: &impl Abort,
+/// Makes the calls of the rows, one after another. The place of the first whose reply isn't the wanted one, if there is
+/// one.
+pub(super) fn wrong_row<K: Word + PartialEq, V: Word + PartialEq, A: Allocator>(
     alloc: Global,
     map: &mut Congee<K, V, A>,
     rows: &[(Call<K, V>, Wanted<'_, K, V>)],
-) {
-    for (call, wanted) in rows {
-        assert!(rt; replies(alloc, map, call, wanted), "{call:?}");
+) -> Option<usize> {
+    for place in 0..rows.len() {
+        let (call, wanted) = &rows[place];
+        if !replies(alloc, map, call, wanted) {
+            return Some(place);
+        }
     }
+    None
 }
 
 fn list_of<K: Word, V: Word>(
@@ -98,16 +99,14 @@ fn list_wanted<K: Word + PartialEq, V: Word + PartialEq>(
     Ok(count_wanted(&replies, rows))
 }
 
-/// Makes the calls of the rows on a new map, as one list, and compares the replies.
-pub(super) fn assert_list<K: Word + PartialEq, V: Word + PartialEq>(
-    rt: &impl Abort,
+/// Makes the calls of the rows on a new map, as one list. Whether the replies are the wanted ones.
+pub(super) fn list_right<K: Word + PartialEq, V: Word + PartialEq>(
     alloc: Global,
     rows: &[(Call<K, V>, Wanted<'_, K, V>)],
-) -> Result<(), OOMError> {
+) -> Result<bool, OOMError> {
     let mut map: Congee<K, V> = Congee::new(alloc, DefaultAllocator {})?;
     let count = list_wanted(alloc, &mut map, rows)?;
-    assert_number(rt, count as u128, rows.len() as u128);
-    Ok(())
+    Ok(count == rows.len())
 }
 
 /// What a call by numbers has to return.
@@ -164,14 +163,12 @@ fn number_list_wanted<V: Word + PartialEq>(
     Ok(count_number_wanted(&replies, rows))
 }
 
-/// Makes the calls of the rows on a new map, as one list, and compares the replies.
-pub(super) fn assert_number_list<V: Word + PartialEq>(
-    rt: &impl Abort,
+/// Makes the calls of the rows on a new map by numbers, as one list. Whether the replies are the wanted ones.
+pub(super) fn number_list_right<V: Word + PartialEq>(
     alloc: Global,
     rows: &[(U64Call<V>, NumberWanted<'_, V>)],
-) -> Result<(), OOMError> {
+) -> Result<bool, OOMError> {
     let mut map: U64Congee<V> = U64Congee::new(alloc)?;
     let count = number_list_wanted(alloc, &mut map, rows)?;
-    assert_number(rt, count as u128, rows.len() as u128);
-    Ok(())
+    Ok(count == rows.len())
 }

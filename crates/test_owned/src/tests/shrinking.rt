@@ -1,9 +1,7 @@
 //! Nodes that shrink and nodes that are removed: what is charged after each call.
 
-use super::asserts::assert_number;
 use congee_owned::{Budget, Congee, CongeeArc, OOMError};
 use std::alloc::Global;
-use std::process::Abort;
 use std::sync::Arc;
 use std::test::Fail;
 
@@ -18,10 +16,10 @@ enum Step {
 
 // How many steps do what they should before one doesn't.
 fn right_steps(map: &mut Limited, steps: &[Step]) -> usize {
-    for (done, step) in steps.iter().enumerate() {
-        let (is_done, charged) = match step {
-            Step::Put(key, charged) => (map.insert(*key, *key) == Ok(None), *charged),
-            Step::Take(key, charged) => (map.remove(key) == Some(*key), *charged),
+    for done in 0..steps.len() {
+        let (is_done, charged) = match steps[done] {
+            Step::Put(key, charged) => (map.insert(key, key) == Ok(None), charged),
+            Step::Take(key, charged) => (map.remove(&key) == Some(key), charged),
         };
         if !is_done || map.charged() != charged {
             return done;
@@ -37,22 +35,20 @@ fn fill(map: &mut Limited, keys: u64) -> Result<(), OOMError> {
     Ok(())
 }
 
-// The steps on a map with a limit that stores the first keys from 0 on.
-fn assert_steps_after(
-    rt: &impl Abort,
-    alloc: Global,
-    limit: u64,
-    keys: u64,
-    steps: &[Step],
-) -> Result<(), OOMError> {
+/// A limit, the number of keys from 0 on that are stored first, and steps.
+type Row = (u64, u64, &'static [Step]);
+
+const ROWS: [Row; 3] = [
+    (u64::MAX, 0, &TWO_LEAVES_GO),
+    (u64::MAX, 17, &A_LEAF_SHRINKS),
+    (2944, 17, &A_SMALLER_LEAF_IS_REFUSED),
+];
+
+fn is_right(alloc: Global, row: &Row) -> Result<bool, OOMError> {
+    let (limit, keys, steps) = *row;
     let mut map = Congee::new(alloc, Budget::new(limit))?;
     fill(&mut map, keys)?;
-    assert_number(
-        rt,
-        right_steps(&mut map, steps) as u128,
-        steps.len() as u128,
-    );
-    Ok(())
+    Ok(right_steps(&mut map, steps) == steps.len())
 }
 
 const TWO_LEAVES_GO: [Step; 4] = [
@@ -83,9 +79,9 @@ const A_SMALLER_LEAF_IS_REFUSED: [Step; 6] = [
 
 #[test]
 fn nodes_shrink_and_go(rt: HostRuntime) -> Result<(), Fail> {
-    assert_steps_after(&rt, rt.alloc(), u64::MAX, 0, &TWO_LEAVES_GO)?;
-    assert_steps_after(&rt, rt.alloc(), u64::MAX, 17, &A_LEAF_SHRINKS)?;
-    assert_steps_after(&rt, rt.alloc(), 2944, 17, &A_SMALLER_LEAF_IS_REFUSED)?;
+    for row in &ROWS {
+        assert!(rt; is_right(rt.alloc(), row)?);
+    }
     Ok(())
 }
 
@@ -101,10 +97,15 @@ fn owners_left(alloc: Global, shared: &Arc<u64>) -> Result<usize, OOMError> {
     Ok(Arc::strong_count(shared))
 }
 
+// How many owners there are beside the map's last ten, and after its drop.
+fn owners(alloc: Global) -> Result<(usize, usize), OOMError> {
+    let shared = Arc::new(alloc, 7)?;
+    let left = owners_left(alloc, &shared)?;
+    Ok((left, Arc::strong_count(&shared)))
+}
+
 #[test]
 fn owners_are_dropped_once(rt: HostRuntime) -> Result<(), Fail> {
-    let shared = Arc::new(rt.alloc(), 7)?;
-    assert_number(&rt, owners_left(rt.alloc(), &shared)? as u128, 11);
-    assert_number(&rt, Arc::strong_count(&shared) as u128, 1);
+    assert!(rt; owners(rt.alloc())? == (11, 1));
     Ok(())
 }

@@ -1,6 +1,5 @@
 //! Drains and drainers.
 
-use super::asserts::{assert_pairs, assert_test};
 use super::counted::Tally;
 use congee_owned::{Congee, DefaultAllocator, Drainer, FnDrain, NoDrain, OOMError};
 use std::alloc::Global;
@@ -52,10 +51,13 @@ fn called_at_drop(alloc: Global) -> Result<Vec<(u64, u64)>, OOMError> {
     Ok(reported.into_inner())
 }
 
+fn are_three(pairs: &[(u64, u64)]) -> bool {
+    pairs == [(1, 10), (2, 20), (u64::MAX, 30)].as_slice()
+}
+
 #[test]
 fn drainer_is_called_at_the_drop(rt: HostRuntime) -> Result<(), Fail> {
-    let wanted = [(1, 10), (2, 20), (u64::MAX, 30)];
-    assert_pairs(&rt, 0, &called_at_drop(rt.alloc())?, &wanted);
+    assert!(rt; are_three(&called_at_drop(rt.alloc())?));
     Ok(())
 }
 
@@ -170,8 +172,7 @@ fn called_by_drain(alloc: Global) -> Result<Vec<(u64, u64)>, OOMError> {
 
 #[test]
 fn drain_calls_its_closure_alone(rt: HostRuntime) -> Result<(), Fail> {
-    let wanted = [(1, 10), (2, 20), (u64::MAX, 30)];
-    assert_pairs(&rt, 0, &called_by_drain(rt.alloc())?, &wanted);
+    assert!(rt; are_three(&called_by_drain(rt.alloc())?));
     Ok(())
 }
 
@@ -182,20 +183,24 @@ fn drain_one<D: Drainer<u64, u64>>(drainer: &D) -> bool
     drainer.wants_pairs()
 }
 
-#[test]
-fn closure_is_called(rt: HostRuntime) -> Result<(), Fail> {
+// Whether a closure as a drainer wants pairs, and is called with the one.
+fn calls_a_closure() -> bool {
     let reported = RefCell::new((0u64, 0u64));
     let drainer = FnDrain::new(|key: u64, value: u64| {
         let _ = reported.try_replace((key, value));
     });
-    assert_test(&rt, drain_one(&drainer), true);
+    let wants = drain_one(&drainer);
     drop(drainer);
-    assert_eq!(rt; reported.into_inner(), (7, 70));
-    Ok(())
+    let called = reported.into_inner();
+    wants && called == (7, 70)
 }
 
 #[test]
-fn nobody_is_called(rt: HostRuntime) -> Result<(), Fail> {
-    assert_test(&rt, drain_one(&NoDrain {}), false);
-    Ok(())
+fn closure_is_called(rt: HostRuntime) {
+    assert!(rt; calls_a_closure());
+}
+
+#[test]
+fn nobody_is_called(rt: HostRuntime) {
+    assert!(rt; !drain_one(&NoDrain {}));
 }

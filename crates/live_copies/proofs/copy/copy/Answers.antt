@@ -10,19 +10,19 @@ use Rattle.live_scans.proofs.Pages.{begun_by, begun_on}
 use Rattle.live_copies.proofs.copy.copy.Goals as goal
 
 pub invariant_of-guard : goal.invariant_of-guard
-invariant_of-guard c = ready_kept c.guard.inside.seat.view c.start.new.seat.view c.guard.inside.room c.guard.invariant c.start.ensures.told.2
+invariant_of-guard c = ready_kept c.guard.inside.seat.view c.start.new.seat.view c.guard.inside.room c.guard.invariant c.start.ensures.keeps
 
 pub loop-init : goal.loop-init
 loop-init c =
     let u = c.guard.inside.seat in
     let v = c.start.new.seat in
-    let s = c.in-Some.ensures.told in
+    let s = c.in-Some.ensures in
     let first : known_of u.book u.id u.view ≡ c.args.guard.now = search rules in
     record {
-      book = s.0 ∙ (search rules);
-      begun = subst (λ (z : Known). HasBegun z (known_of v.book v.id v.view)) first (begun_by u.book v.book v.book u.id v.id v.id u.view v.view v.view s.0 s.1 refl refl s.3.0 (more_same v.id v.view.client.seen));
-      ready = ready_kept u.view v.view c.guard.inside.room c.guard.invariant s.2;
-      root = subst (λ (z : ℕ × ℕ). Names v.view c.in-Some.position.name z.0 z.1) (λ i. (s.3.1 i, s.3.2 i)) s.3.3.2;
+      book = s.book ∙ (search rules);
+      begun = subst (λ (z : Known). HasBegun z (known_of v.book v.id v.view)) first (begun_by u.book v.book v.book u.id v.id v.id u.view v.view v.view s.book s.id refl refl s.starts.0 (more_same v.id v.view.client.seen));
+      ready = ready_kept u.view v.view c.guard.inside.room c.guard.invariant s.keeps;
+      root = subst (λ (z : ℕ × ℕ). Names v.view c.in-Some.position.name z.0 z.1) (λ i. (s.starts.1 i, s.starts.2 i)) s.starts.3.2;
     }
 
 pub loop-preserved : goal.loop-preserved

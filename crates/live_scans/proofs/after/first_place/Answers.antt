@@ -1,10 +1,15 @@
-use Rattle.std.proofs.Common.{arith, ap, subst, sym, ◌≡◌, ℕ, ◌+◌, ◌-◌, ◌*◌, min}
+use Rattle.std.proofs.Common.{arith, ap, subst, sym, ◌≡◌, ℕ, ◌+◌, ◌-◌, ◌*◌, min, Option, Some, None}
 use Rattle.live_layout.specs.Words.{lane}
 use Rattle.live_layout.specs.ListCells.{count, key}
 use Rattle.live_layout.proofs.Seats.{stays-then}
+use Rattle.live_layout.specs.inner.Best.{IsBest}
 use Rattle.live_scans.specs.inner.Afters.{IsLeast}
-use Rattle.live_scans.proofs.Joints.{best_of}
 use Rattle.live_scans.proofs.after.first_place.Goals as goal
+
+-- the best from the first place on
+best_of : (f : ℕ → ℕ) (n least : ℕ) (o : Option (ℕ × ℕ)) → IsLeast f 0 n least o → IsBest f least n o
+best_of f n least None h = λ j l. h j (omega arith) l
+best_of f n least (Some e) h = (h.1, h.2, h.3, λ j l m. h.4 j (omega arith) l m)
 
 pub loop-w-init : goal.loop-w-init
 loop-w-init g c =

@@ -1,4 +1,4 @@
-use Rattle.std.proofs.Common.{◌≡◌, ◌-◌, ◌%◌, ◌≤◌, ◌^◌, ℕ, true, length, IfSome}
+use Rattle.std.proofs.Common.{◌≡◌, ◌-◌, ◌%◌, ◌<◌, ◌≤◌, ◌^◌, ℕ, true, length, IfSome}
 use Rattle.spec_map.specs.Map.{Pairs}
 use Rattle.live_scans.specs.inner.Moments.{SeesMore}
 use Rattle.live_reads.specs.Paths.{Keeps}
@@ -12,6 +12,7 @@ invariant-loop-stepped l = record {
   id : l.seat.id ≡ l.fn.seat.id;
   keeps : Keeps l.fn.seat.view l.seat.view;
   seen : SeesMore l.seat.view.client.seen l.fn.seat.id l.fn.seat.view.client.seen;
+  within : l.from < 2 ^ 64;
   seam : l.from % 256 ≡ 0;
   few : l.count ≤ l.from;
   pairs : Pairs ℕ;

@@ -1,5 +1,5 @@
 use Rattle.std.proofs.Common.{rules}
-use Rattle.live_scans.proofs.Ends.{none_before}
+use Rattle.live_scans.proofs.PagesDown.{none_before}
 use Rattle.live_scans.proofs.floors.below.Goals as goal
 
 pub returns-then-key-eq0-clause-before : goal.returns-then-key-eq0-clause-before

@@ -17,7 +17,7 @@ check-requires-clause-learns c =
     let h = c.requires.head in
     let first = c.index-words-0.result in
     let at_k = (first_word (place_at h.sighted.spot) b words h.opened.are first first (sym c.index-words-0.is)).0 in
-    may_arrive v b words t l.name l.height l.first h first.key at_k c.args.seat.now.id (t / 4) (let e = h.even in omega (arith, e))
+    may_arrive v b words t l.node h first.key at_k c.args.seat.now.id (t / 4) (let e = h.even in omega (arith, e))
 
 pub returns : goal.returns
 returns c =
@@ -32,9 +32,12 @@ returns c =
     let tells = c.check.ensures.told in
     let seat = c.check.ensures.seat in
     let w = c.check.new.seat.view in
-    let missed = arrive_missed v b words t l.name l.height l.first h first.key at_k w tells.0 tells.2 in
-    let hit = arrive_hit v b words t l.name l.height l.first h first.key at_k w tells.0 tells.2 in
+    let missed = arrive_missed v b words t l.node h first.key at_k w tells.0 tells.2 in
+    let hit = arrive_hit v b words t l.node h first.key at_k w tells.0 tells.2 in
     record {
-      told = dite (ℕ_discrete tells.0 t) (λ e. let k = hit e in (seat.0, seat.1, k.0, k.1)) (λ ne. let k = missed ne in (seat.0, seat.1, k.0, ap (λ (z : View). z.seen) k.1));
+      book = seat.0;
+      id = seat.1;
+      keeps = dite (ℕ_discrete tells.0 t) (λ e. (hit e).0) (λ ne. (missed ne).0);
+      seen = dite (ℕ_discrete tells.0 t) (λ e. (hit e).1) (λ ne. ap (λ (z : View). z.seen) (missed ne).1);
       named = λ yes. (hit (tells.1.0 yes)).2;
     }

@@ -4,32 +4,32 @@ use Rattle.live_scans.proofs.Nones.{is_within}
 use Rattle.live_scans.proofs.Nexts.{apart_after, apart_before}
 use Rattle.live_scans.proofs.next.choose.Goals as goal
 
-pub returns-then-first-key : goal.returns-then-first-key
-returns-then-first-key c =
-    let key = c.args.key in
-    let height = c.args.height in
+pub returns-then-first-at : goal.returns-then-first-at
+returns-then-first-at c =
+    let key = c.args.at.key in
+    let height = c.args.at.height in
     let to = c.args.to in
     let l = c.args.lower in
     let high = c.requires.height.0 in
-    let low_key = c.if-to-key.false in
+    let low_key = c.if-to-at.false in
     let last = c.if-to-ne255.false in
-    let after = c.if-first-key.true in
-    let ne : up l.height key ≢ up l.height l.first = λ e. c.if-upper-base.false (c.upper.ensures ∙ (e ∙ sym c.upper-base.ensures)) in (
+    let after = c.if-first-at.true in
+    let ne : up l.height key ≢ up l.height l.key = λ e. c.if-upper-base.false (c.upper.ensures ∙ (e ∙ sym c.upper-base.ensures)) in (
       low_key,
       omega (arith, last),
-      λ k from end. (is_within height key to c.args.byte k (omega (arith, high)) c.ranges.byte.fits c.requires.to from (omega (arith, end)), apart_after l.height l.first key k (omega (arith, after)) from ne),
+      λ k from end. (is_within height key to c.args.byte k (omega (arith, high)) c.ranges.byte.fits c.requires.to from (omega (arith, end)), apart_after l.height l.key key k (omega (arith, after)) from ne),
     )
 
 pub returns : goal.returns
 returns c =
-    let key = c.args.key in
-    let height = c.args.height in
+    let key = c.args.at.key in
+    let height = c.args.at.height in
     let l = c.args.lower in
     let high = c.requires.height.0 in
     let low = c.if-low-lt1.false in
-    let lower = c.if-low-height.false in
-    let before = c.if-first-key.false in
-    let ne : up l.height (l.first - 1) ≢ up l.height l.first = λ e. c.if-upper-base-2.false (c.upper-2.ensures ∙ (e ∙ sym c.upper-base.ensures)) in
+    let lower = c.if-low-at.false in
+    let before = c.if-first-at.false in
+    let ne : up l.height (l.key - 1) ≢ up l.height l.key = λ e. c.if-upper-base-2.false (c.upper-2.ensures ∙ (e ∙ sym c.upper-base.ensures)) in
     let is = sym c.upper-else-upper-base-2.ensures ∙ (c.if-upper.false ∙ (c.upper-else-upper-base-2-2.ensures ∙ c.requires.to)) in (
       refl,
       refl,
@@ -38,5 +38,5 @@ returns c =
       omega (arith, before),
       inl c.if-first-ne0.false,
       refl,
-      λ k from end. (is_within height key l.first c.args.byte k (omega (arith, high)) c.ranges.byte.fits is from (omega (arith, end)), apart_before l.height l.first k end ne),
+      λ k from end. (is_within height key l.key c.args.byte k (omega (arith, high)) c.ranges.byte.fits is from (omega (arith, end)), apart_before l.height l.key k end ne),
     )

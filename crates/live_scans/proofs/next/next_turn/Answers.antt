@@ -9,19 +9,29 @@ returns-in-None g c =
     let v = c.args.seat.now.view in
     let id = c.args.seat.now.id in
     let u = c.open_near.new.seat.view in
-    let t = c.open_near.ensures.told in
+    let t = c.open_near.ensures in
     let w = c.behind.new.seat.view in
-    let b = c.behind.ensures.told in
-    let first = seen_equal id v u t.3 in
-    record { told = (b.0 ∙ t.0, b.1 ∙ t.1, keeps_then v u w t.2 b.2, seen_since c.open_near.new.seat.id id v u w t.1 first b.3, turns_since c.open_near.new.seat.id id v u w c.args.key c.args.height c.behind.result t.1 first b.4) }
+    let b = c.behind.ensures in
+    let first = seen_equal id v u t.seen in record {
+      book = b.book ∙ t.book;
+      id = b.id ∙ t.id;
+      keeps = keeps_then v u w t.keeps b.keeps;
+      seen = seen_since c.open_near.new.seat.id id v u w t.id first b.seen;
+      turns = turns_since c.open_near.new.seat.id id v u w c.args.at c.behind.result t.id first b.turns;
+    }
 
 pub returns-in-Some : goal.returns-in-Some
 returns-in-Some g c =
     let v = c.args.seat.now.view in
     let id = c.args.seat.now.id in
     let u = c.open_near.new.seat.view in
-    let t = c.open_near.ensures.told in
+    let t = c.open_near.ensures in
     let w = c.beside.new.seat.view in
-    let b = c.beside.ensures.told in
-    let first = seen_equal id v u t.3 in
-    record { told = (b.0 ∙ t.0, b.1 ∙ t.1, keeps_then v u w t.2 b.2, seen_since c.open_near.new.seat.id id v u w t.1 first b.3, turns_since c.open_near.new.seat.id id v u w c.args.key c.args.height c.beside.result t.1 first b.4) }
+    let b = c.beside.ensures in
+    let first = seen_equal id v u t.seen in record {
+      book = b.book ∙ t.book;
+      id = b.id ∙ t.id;
+      keeps = keeps_then v u w t.keeps b.keeps;
+      seen = seen_since c.open_near.new.seat.id id v u w t.id first b.seen;
+      turns = turns_since c.open_near.new.seat.id id v u w c.args.at c.beside.result t.id first b.turns;
+    }

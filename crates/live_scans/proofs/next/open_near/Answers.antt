@@ -25,9 +25,7 @@ returns c =
     let v = c.args.seat.now.view in
     let u = c.enter.new.seat.view in
     let entered = c.enter.ensures.told in
-    let name = c.args.name in
-    let key = c.args.key in
-    let height = c.args.height in
+    let at = c.args.at in
     let b = c.enter.new.seat.book in
     let words = c.in_ok-here.here.words.now in
     let t = c.in_ok-here.here.taken in
@@ -40,7 +38,10 @@ returns c =
     let book = ap (λ s. s.book) r in
     let k = reading_on_keeps u v₂ o.opened.before spot.number t (last_saw v₂.reads) (open_read u b words t spot o.names.placed o.opened v₂ rest) in
     record {
-      told = (book ∙ entered.0, ap (λ s. s.id) r ∙ entered.1, keeps_then v u v₂ entered.2 k.0, ap (λ (z : View). z.seen) k.1 ∙ entered.3);
-      near = near_read u v₂ b c.child_after-found.new.seat.book words t name key height o rest book (λ content agrees. subst (λ z. Agree content (last_saw z)) o.opened.reads (c.child_after-found.ensures.kept content agrees)) c.child_after-found.result
+      book = book ∙ entered.0;
+      id = ap (λ s. s.id) r ∙ entered.1;
+      keeps = keeps_then v u v₂ entered.2 k.0;
+      seen = ap (λ (z : View). z.seen) k.1 ∙ entered.3;
+      near = near_read u v₂ b c.child_after-found.new.seat.book words t at o rest book (λ content agrees. subst (λ z. Agree content (last_saw z)) o.opened.reads (c.child_after-found.ensures.kept content agrees)) c.child_after-found.result
           (λ content n agrees encodes formed. subst (λ z. HasNearest true n.children z c.child_after-found.result) c.byte_at.ensures (c.child_after-found.ensures.is content n agrees encodes (formed ∙ sym form)));
     }

@@ -1,5 +1,5 @@
 use Rattle.std.proofs.Common.{rules, arith, refl, sym, ap, subst, get_or, ℕ, List, Option, Some, ◌/◌, ◌≡◌, ◌∙◌}
-use Rattle.word_book.specs.Book.{Name, reads, none_joined}
+use Rattle.word_book.specs.Book.{reads, none_joined}
 use Rattle.live_nodes.specs.Plays.{Checks}
 use Rattle.live_nodes.specs.Calls.{MayCheck}
 use Rattle.live_nodes.specs.Seats.{IsIn}
@@ -37,7 +37,7 @@ module _ (g : Over) (c : After-index-there-0 g) where
   abbrev k : ℕ
   k = (get_or c.in_ok-there.there.words.now 0 c.index-there-0.result).key
 
-  abbrev child : ChildRead c.args.seat.now.view c.args.seat.now.book c.args.here.words.now c.args.here.taken c.args.name c.args.key c.args.height c.args.byte c.args.word c.slot_below-below.result c.open.new.seat.view c.open.new.seat.book c.in_ok-there.there.words.now c.in_ok-there.there.taken c.word-head.new.seat.view k
+  abbrev child : ChildRead c.args.seat.now.view c.args.seat.now.book c.args.here.words.now c.args.here.taken c.args.at (c.args.byte, c.args.word) c.slot_below-below.result c.open.new.seat.view c.open.new.seat.book c.in_ok-there.there.words.now c.in_ok-there.there.taken c.word-head.new.seat.view k
   child =
       let o = (goal.at.After-index-there-0 g c).In_ok-there in
       let told = c.open.ensures.told in record {
@@ -46,7 +46,7 @@ module _ (g : Over) (c : After-index-there-0 g) where
         low_byte = c.ranges.byte.fits;
         child = below g o;
         is_child = λ s e. sym (c.slot_below-below.ensures s e);
-        apart = c.if-below-name.false;
+        apart = c.if-below-at.false;
         keeps = told.2;
         client = told.3;
         opened = opened g o;
@@ -75,11 +75,8 @@ module _ (g : Over) (c : After-check g) where
   id : c.check.new.seat.id ≡ c.args.seat.now.id
   id = c.check.ensures.seat.1 ∙ (ap (λ s. s.id) c.word-head.ensures.seat.others ∙ c.open.ensures.told.1)
 
-  abbrev Kept : Type 0
-  Kept = (c.check.new.seat.book ≡ c.args.seat.now.book) × (c.check.new.seat.id ≡ c.args.seat.now.id) × Keeps c.args.seat.now.view c.check.new.seat.view × (c.check.new.seat.view.client.seen ≡ c.args.seat.now.view.client.seen)
-
-  kept : c.check.ensures.told.0 ≡ c.in_ok-there.there.taken → Kept
-  kept hit = let k = next_keeps (child g read_it) c.check.new.seat.view c.check.ensures.told.0 told hit in (book, id, k.0, k.1)
+  kept : c.check.ensures.told.0 ≡ c.in_ok-there.there.taken → Keeps c.args.seat.now.view c.check.new.seat.view × (c.check.new.seat.view.client.seen ≡ c.args.seat.now.view.client.seen)
+  kept = next_keeps (child g read_it) c.check.new.seat.view c.check.ensures.told.0 told
 
 pub open-requires-clause-sighted : goal.open-requires-clause-sighted
 open-requires-clause-sighted g c = n g (goal.at.open-requires-clause-sighted g c).After-slot_below-below
@@ -103,22 +100,29 @@ check-requires-clause-learns g c =
     let may = may_watch_next (child g i) id (c.in_ok-there.there.taken / 4) (c.args.here.taken / 4) (omega (arith, even)) (omega (arith, free)) in
     subst (λ (z : ℕ × Option ℕ). MayCheck c.word-head.new.seat.view (k g i) IsMap id (LearnsBelow z.0 z.1) c.in_ok-there.there.taken) (λ j. (sym (at_above g i).0 j, sym (at_above g i).1 j)) may
 
-pub returns-then-not-check-clause-told : goal.returns-then-not-check-clause-told
-returns-then-not-check-clause-told g c =
-    let z = (goal.at.returns-then-not-check-clause-told g c).After-check in
+pub returns-then-not-check : goal.returns-then-not-check
+returns-then-not-check g c =
+    let z = (goal.at.returns-then-not-check g c).After-check in
     let missed = next_missed (child g (read_it g z)) c.check.new.seat.view c.check.ensures.told.0 (told g z) (search rules) in
-    (book g z, id g z, missed.0, missed.1)
+    record { book = book g z; id = id g z; keeps = missed.0; seen = missed.1; next = tt }
 
-pub returns-in-Covers-clause-told : goal.returns-in-Covers-clause-told
-returns-in-Covers-clause-told g c = kept g (goal.at.returns-in-Covers-clause-told g c).After-check (search rules)
+pub returns-in-Leaves : goal.returns-in-Leaves
+returns-in-Leaves g c =
+    let z = (goal.at.returns-in-Leaves g c).After-check in
+    let k = kept g z (search rules) in
+    record { book = book g z; id = id g z; keeps = k.0; seen = k.1; next = tt }
 
-pub returns-in-Leaves-clause-told : goal.returns-in-Leaves-clause-told
-returns-in-Leaves-clause-told g c = kept g (goal.at.returns-in-Leaves-clause-told g c).After-check (search rules)
-
-pub returns-in-Covers-clause-next : goal.returns-in-Covers-clause-next
-returns-in-Covers-clause-next g c =
-    let z = (goal.at.returns-in-Covers-clause-next g c).After-check in
+pub returns-in-Covers : goal.returns-in-Covers
+returns-in-Covers g c =
+    let z = (goal.at.returns-in-Covers g c).After-check in
+    let k = kept g z (search rules) in
     let prefix_match : c.compare.result ≡ prefix_matches.Covers c.in-Covers.height = c.in-Covers.is in
     let sees = λ (form : ℕ) (p : List ℕ) (h : IsHead c.word-head.result form p). subst (Sees p c.floor_of-first.result) prefix_match (c.compare.ensures form p h) in
-    next_is (child g (read_it g z)) c.check.new.seat.view c.check.ensures.told.0 (told g z) (search rules) c.check.new.seat.book (book g z) (book_since g z) c.in_ok-there.ensures.opened.0 c.word-head.result c.floor_of-first.result (search rules)
-    (λ content agrees. (c.word-head.ensures.read content agrees).0) c.in-Covers.height sees
+    record {
+      book = book g z;
+      id = id g z;
+      keeps = k.0;
+      seen = k.1;
+      next = next_is (child g (read_it g z)) c.check.new.seat.view c.check.ensures.told.0 (told g z) (search rules) c.check.new.seat.book (book g z) (book_since g z) c.in_ok-there.ensures.opened.0 c.word-head.result
+          (record { name = c.slot_below-below.result; height = c.in-Covers.height; key = c.floor_of-first.result }) refl (search rules) (λ content agrees. (c.word-head.ensures.read content agrees).0) sees;
+    }

@@ -1,26 +1,58 @@
-use Rattle.std.proofs.Common.{rules, arith, refl, inl, inr, None, true, ◌≡◌, ◌∙◌}
+use Rattle.std.proofs.Common.{rules, arith, refl, ℕ, None, take, length, ◌≡◌, ◌<◌}
 use Rattle.std.proofs.lemmas.List.{length-map}
 use Rattle.live_nodes.specs.Seats.{place}
-use Rattle.live_reads.proofs.Finds.{keeps_then, when_out}
+use Rattle.live_reads.proofs.Finds.{when_out}
 use Rattle.live_layout.specs.Page.{pairs_of}
-use Rattle.live_scans.specs.inner.Steps.{IsPage}
-use Rattle.live_scans.proofs.Composed.{more_same, nothing_read}
-use Rattle.live_scans.proofs.Passes.{keeps_same, seen_since, page_step}
+use Rattle.live_scans.specs.inner.Directions.{low_of, high_of, ascending}
+use Rattle.live_scans.specs.inner.Moments.{Reads}
+use Rattle.live_scans.specs.inner.Steps.{IsStep, IsPage}
+use Rattle.live_scans.proofs.Composed.{more_same}
+use Rattle.live_scans.proofs.Passes.{keeps_same, Stays, stays_then, page_begins, page_step, page_on, from_then, fewer_left}
+use Rattle.live_scans.proofs.page.page.Given.{Over}
 use Rattle.live_scans.proofs.page.page.Goals as goal
+use Rattle.live_scans.proofs.page.page.Goals.{After-read_on}
+
+-- A STEP was made
+module _ (g : Over) (c : After-read_on g) where
+  stays : Stays c.args.seat.now.book c.read_on.new.seat.book c.args.seat.now.id c.read_on.new.seat.id c.args.seat.now.view c.read_on.new.seat.view
+  stays =
+      let i = c.loop-stepped.invariant in
+      let t = c.read_on.ensures in
+      stays_then c.args.seat.now.book c.loop-stepped.seat.book c.read_on.new.seat.book c.args.seat.now.id c.loop-stepped.seat.id c.read_on.new.seat.id c.args.seat.now.view c.loop-stepped.seat.view c.read_on.new.seat.view (i.book, i.id, i.keeps, i.seen) (t.book, t.id, t.keeps, t.seen)
+
+  abbrev Steps : ℕ → ℕ → Type 0
+  Steps count last = IsStep c.args.bound.up c.loop-stepped.seat.id c.loop-stepped.seat.view c.read_on.new.seat.view c.loop-stepped.from c.args.bound.limit c.loop-stepped.count (pairs_of g.P.RangeEntry.pair c.read_on.new.buffer) count last
+
+  -- so all up to its key was read
+  reads : (count last : ℕ) → Steps count last → Reads c.args.bound.up c.args.seat.now.id c.args.seat.now.view c.read_on.new.seat.view (low_of c.args.bound.up c.args.key last) (high_of c.args.bound.up c.args.key last) (ascending c.args.bound.up (take count (pairs_of g.P.RangeEntry.pair c.read_on.new.buffer)))
+  reads count last its =
+      let i = c.loop-stepped.invariant in
+      page_step c.args.bound.up c.loop-stepped.seat.id c.args.seat.now.id c.args.seat.now.view c.loop-stepped.seat.view c.read_on.new.seat.view c.args.key c.loop-stepped.from c.args.bound.limit c.loop-stepped.count count last (pairs_of g.P.RangeEntry.pair c.loop-stepped.buffer) (pairs_of g.P.RangeEntry.pair c.read_on.new.buffer) i.id i.seen i.read c.read_on.ensures.before i.order i.seam its
+
+  -- and that may be the page
+  page : (count last : ℕ) → Steps count last → (count < length (pairs_of g.P.RangeEntry.pair c.read_on.new.buffer) → last ≡ c.args.bound.limit) → IsPage c.args.bound.up c.args.seat.now.id c.args.seat.now.view c.read_on.new.seat.view c.args.key c.args.bound.limit (pairs_of g.P.RangeEntry.pair c.read_on.new.buffer) count last
+  page count last its whole = record {
+    order = from_then c.args.bound.up c.args.key c.loop-stepped.from last c.loop-stepped.invariant.order its.order;
+    within = its.within;
+    few = its.few;
+    whole = whole;
+    reads = reads count last its;
+  }
 
 pub loop-stepped-init : goal.loop-stepped-init
 loop-stepped-init g c =
-    let u = c.args.seat.now.view in record {
+    let u = c.args.seat.now.view in
+    let begins = page_begins c.args.bound.up u.client.seen c.args.key (pairs_of g.P.RangeEntry.pair c.args.buffer.now) in record {
       book = refl;
       id = refl;
       keeps = keeps_same u;
       seen = more_same c.args.seat.now.id u.client.seen;
       room = c.requires.room;
-      low = omega arith;
-      high = c.requires.order;
-      seam = inr refl;
+      order = begins.2;
+      within = c.requires.order;
+      seam = begins.1;
       position = c.requires.position;
-      read = nothing_read true u.client.seen c.args.key c.args.key (omega arith);
+      read = begins.0;
     }
 
 pub read_on-requires-clause-root_word : goal.read_on-requires-clause-root_word
@@ -28,90 +60,57 @@ read_on-requires-clause-root_word g c = c.loop-stepped.invariant.keeps.places (p
 
 pub returns-in_err-stepped : goal.returns-in_err-stepped
 returns-in_err-stepped g c =
-    let u = c.args.seat.now.view in
-    let id = c.args.seat.now.id in
-    let i = c.loop-stepped.invariant in
-    let v = c.loop-stepped.seat.view in
-    let w = c.read_on.new.seat.view in
-    let t = c.read_on.ensures.told in
-    let out : c.from_residual.result ≡ None = search rules in
-    record {
-      told = (
-        t.0 ∙ i.book,
-        t.1 ∙ i.id,
-        keeps_then u v w i.keeps t.2,
-        seen_since c.loop-stepped.seat.id id u v w i.id i.seen t.3,
-        when_out (λ s. IsPage id u w c.args.key c.args.limit (pairs_of g.P.RangeEntry.pair c.read_on.new.buffer) s.count s.last) c.from_residual.result out,
-      );
+    let t = stays g (goal.at.returns-in_err-stepped g c).After-read_on in
+    let out : c.from_residual.result ≡ None = search rules in record {
+      book = t.0;
+      id = t.1;
+      keeps = t.2;
+      seen = t.3;
+      page = when_out (λ s. IsPage c.args.bound.up c.args.seat.now.id c.args.seat.now.view c.read_on.new.seat.view c.args.key c.args.bound.limit (pairs_of g.P.RangeEntry.pair c.read_on.new.buffer) s.count s.last) c.from_residual.result out;
     }
 
 pub returns-then-step-buffer : goal.returns-then-step-buffer
 returns-then-step-buffer g c =
-    let u = c.args.seat.now.view in
-    let id = c.args.seat.now.id in
-    let i = c.loop-stepped.invariant in
-    let v = c.loop-stepped.seat.view in
-    let w = c.read_on.new.seat.view in
-    let t = c.in_ok-stepped.ensures.told in
+    let d = (goal.at.returns-then-step-buffer g c).After-read_on in
+    let t = stays g d in
     let s = c.in_ok-stepped.stepped.step in
-    let its = t.4.1 in
-    let low = i.low in
-    let from = its.low in
-    let page : IsPage id u w c.args.key c.args.limit (pairs_of g.P.RangeEntry.pair c.read_on.new.buffer) s.count s.last = record {
-      low = omega (arith, low, from);
-      high = its.high;
-      few = its.few;
-      whole = λ l. absurd (let n = length-map c.read_on.new.buffer g.P.RangeEntry.pair in omega (arith, n, l, c.if-step-buffer.true));
-      reads = page_step c.loop-stepped.seat.id id u v w c.args.key c.loop-stepped.from c.args.limit c.loop-stepped.count s.count s.last (pairs_of g.P.RangeEntry.pair c.loop-stepped.buffer) (pairs_of g.P.RangeEntry.pair c.read_on.new.buffer) i.id i.seen i.read c.in_ok-stepped.ensures.before i.low i.seam its;
-    } in
-    record { told = (t.0 ∙ i.book, t.1 ∙ i.id, keeps_then u v w i.keeps t.2, seen_since c.loop-stepped.seat.id id u v w i.id i.seen t.3, page) }
+    let n = length-map c.read_on.new.buffer g.P.RangeEntry.pair in
+    record { book = t.0; id = t.1; keeps = t.2; seen = t.3; page = page g d s.count s.last c.in_ok-stepped.ensures.step (λ l. absurd (omega (arith, n, l, c.if-step-buffer.true))) }
 
-pub returns-then-step-limit : goal.returns-then-step-limit
-returns-then-step-limit g c =
-    let u = c.args.seat.now.view in
-    let id = c.args.seat.now.id in
-    let i = c.loop-stepped.invariant in
-    let v = c.loop-stepped.seat.view in
-    let w = c.read_on.new.seat.view in
-    let t = c.in_ok-stepped.ensures.told in
+pub returns-then-step-bound : goal.returns-then-step-bound
+returns-then-step-bound g c =
+    let d = (goal.at.returns-then-step-bound g c).After-read_on in
+    let t = stays g d in
     let s = c.in_ok-stepped.stepped.step in
-    let its = t.4.1 in
-    let low = i.low in
-    let from = its.low in
-    let page : IsPage id u w c.args.key c.args.limit (pairs_of g.P.RangeEntry.pair c.read_on.new.buffer) s.count s.last = record {
-      low = omega (arith, low, from);
-      high = its.high;
-      few = its.few;
-      whole = λ l. c.if-step-limit.true;
-      reads = page_step c.loop-stepped.seat.id id u v w c.args.key c.loop-stepped.from c.args.limit c.loop-stepped.count s.count s.last (pairs_of g.P.RangeEntry.pair c.loop-stepped.buffer) (pairs_of g.P.RangeEntry.pair c.read_on.new.buffer) i.id i.seen i.read c.in_ok-stepped.ensures.before i.low i.seam its;
-    } in
-    record { told = (t.0 ∙ i.book, t.1 ∙ i.id, keeps_then u v w i.keeps t.2, seen_since c.loop-stepped.seat.id id u v w i.id i.seen t.3, page) }
+    record { book = t.0; id = t.1; keeps = t.2; seen = t.3; page = page g d s.count s.last c.in_ok-stepped.ensures.step (λ l. c.if-step-bound.true) }
 
 pub loop-stepped-preserved : goal.loop-stepped-preserved
 loop-stepped-preserved g c =
-    let u = c.args.seat.now.view in
-    let id = c.args.seat.now.id in
-    let i = c.loop-stepped.invariant in
-    let v = c.loop-stepped.seat.view in
-    let w = c.read_on.new.seat.view in
-    let t = c.in_ok-stepped.ensures.told in
+    let d = (goal.at.loop-stepped-preserved g c).After-read_on in
+    let t = stays g d in
     let s = c.in_ok-stepped.stepped.step in
-    let its = t.4.1 in
+    let its = c.in_ok-stepped.ensures.step in
     let few = its.few in
+    let up = c.args.bound.up in
     let n = length-map c.read_on.new.buffer g.P.RangeEntry.pair in
-    let high = its.high in
-    let low = i.low in
-    let from = its.low in
-    let reads = page_step c.loop-stepped.seat.id id u v w c.args.key c.loop-stepped.from c.args.limit c.loop-stepped.count s.count s.last (pairs_of g.P.RangeEntry.pair c.loop-stepped.buffer) (pairs_of g.P.RangeEntry.pair c.read_on.new.buffer) i.id i.seen i.read c.in_ok-stepped.ensures.before i.low i.seam its in
+    let next = c.key_after-from.ensures in
+    let order = from_then up c.args.key c.loop-stepped.from s.last c.loop-stepped.invariant.order its.order in
+    let on = page_on up c.args.seat.now.id c.args.seat.now.view c.read_on.new.seat.view c.args.key s.last c.key_after-from.result (take s.count (pairs_of g.P.RangeEntry.pair c.read_on.new.buffer)) order (its.seam (omega (arith, n, few, c.if-step-buffer.false)) c.if-step-bound.false) next.next (reads g d s.count s.last its) in
     record {
-      book = t.0 ∙ i.book;
-      id = t.1 ∙ i.id;
-      keeps = keeps_then u v w i.keeps t.2;
-      seen = seen_since c.loop-stepped.seat.id id u v w i.id i.seen t.3;
+      book = t.0;
+      id = t.1;
+      keeps = t.2;
+      seen = t.3;
       room = omega (arith, n, few, c.if-step-buffer.false);
-      low = omega (arith, low, from);
-      high = omega (arith, high, c.if-step-limit.false);
-      seam = inl (its.seam (omega (arith, n, few, c.if-step-buffer.false)) (omega (arith, high, c.if-step-limit.false)));
-      position = t.4.0;
-      read = reads.read;
+      order = on.2;
+      within = next.within;
+      seam = on.1;
+      position = c.in_ok-stepped.ensures.position;
+      read = on.0;
     }
+
+pub loop-stepped-smaller : goal.loop-stepped-smaller
+loop-stepped-smaller g c =
+    let its = c.in_ok-stepped.ensures.step in
+    let s = c.in_ok-stepped.stepped.step in
+    fewer_left c.args.bound.up c.args.bound.limit c.loop-stepped.from s.last c.key_after-from.result its.order its.within c.if-step-bound.false c.key_after-from.ensures.next

@@ -1,9 +1,10 @@
-use Rattle.std.proofs.Common.{◌≡◌, ◌⊎◌, ◌+◌, ◌-◌, ◌%◌, ◌<◌, ◌≤◌, true, take, length, IfSome}
-use Rattle.live_scans.specs.inner.Moments.{SeesMore}
-use Rattle.live_reads.specs.Paths.{Keeps}
+use Rattle.std.proofs.Common.{◌≡◌, ◌<◌, take, length, IfSome}
+use Rattle.live_layout.specs.Order.{IsFrom}
 use Rattle.live_layout.specs.Page.{pairs_of}
-use Rattle.live_scans.specs.Scans.{HasRead}
+use Rattle.live_reads.specs.Paths.{Keeps}
+use Rattle.live_scans.specs.inner.Moments.{SeesMore}
 use Rattle.live_scans.specs.inner.Stops.{IsPosition}
+use Rattle.live_scans.proofs.Passes.{HasReadTo, BeginsLeaf, left}
 use Rattle.live_scans.proofs.page.page.Given as goal
 
 abbrev pub invariant-loop-stepped : goal.invariant-loop-stepped
@@ -13,12 +14,12 @@ invariant-loop-stepped g l = record {
   keeps : Keeps l.fn.seat.view l.seat.view;
   seen : SeesMore l.seat.view.client.seen l.fn.seat.id l.fn.seat.view.client.seen;
   room : l.count < length l.buffer;
-  low : l.key ≤ l.from;
-  high : l.from ≤ l.limit;
-  seam : (l.from % 256 ≡ 0) ⊎ (l.key ≡ l.from);
+  order : IsFrom l.bound.up l.key l.from;
+  within : IsFrom l.bound.up l.from l.bound.limit;
+  seam : BeginsLeaf l.bound.up l.key l.from;
   position : IfSome l.at (IsPosition l.seat.view);
-  read : HasRead true l.fn.seat.view.client.seen l.seat.view.client.seen l.key l.from (take l.count (pairs_of g.P.RangeEntry.pair l.buffer));
+  read : HasReadTo l.bound.up l.fn.seat.view.client.seen l.seat.view.client.seen l.key l.from (take l.count (pairs_of g.P.RangeEntry.pair l.buffer));
 }
 
 abbrev pub decreases-loop-stepped : goal.decreases-loop-stepped
-decreases-loop-stepped g l = l.limit + 1 - l.from
+decreases-loop-stepped g l = left l.bound.up l.bound.limit l.from

@@ -8,21 +8,23 @@ use Rattle.live_scans.proofs.page.read_on.Goals as goal
 pub try_step-requires-clause-root_word : goal.try_step-requires-clause-root_word
 try_step-requires-clause-root_word g c = c.loop.invariant.keeps.places (place 0 1 1) c.requires.root_word
 
-pub returns-in-Some-clause-told : goal.returns-in-Some-clause-told
-returns-in-Some-clause-told g c =
+pub returns-in-Some : goal.returns-in-Some
+returns-in-Some g c =
     let u = c.args.seat.now.view in
     let id = c.args.seat.now.id in
     let i = c.loop.invariant in
     let v = c.loop.seat.view in
     let w = c.try_step.new.seat.view in
-    let t = c.in-Some.ensures.told in
-    let s = c.in-Some.stepped.step in (
-      t.0 ∙ i.book,
-      t.1 ∙ i.id,
-      keeps_then u v w i.keeps t.2,
-      seen_since c.loop.seat.id id u v w i.id i.seen t.3,
-      (t.4.0, step_since c.loop.seat.id id u v w c.args.key c.args.limit c.args.start s.count s.last (pairs_of g.P.RangeEntry.pair c.try_step.new.buffer) i.id i.seen t.4.1),
-    )
+    let t = c.in-Some.ensures in
+    let s = c.in-Some.stepped.step in record {
+      before = t.before ∙ i.before;
+      book = t.book ∙ i.book;
+      id = t.id ∙ i.id;
+      keeps = keeps_then u v w i.keeps t.keeps;
+      seen = seen_since c.loop.seat.id id u v w i.id i.seen t.seen;
+      position = t.position;
+      step = step_since c.args.bound.up c.loop.seat.id id u v w c.args.key c.args.bound.limit c.args.start s.count s.last (pairs_of g.P.RangeEntry.pair c.try_step.new.buffer) i.id i.seen t.step;
+    }
 
 pub loop-preserved : goal.loop-preserved
 loop-preserved g c =
@@ -31,12 +33,12 @@ loop-preserved g c =
     let i = c.loop.invariant in
     let v = c.loop.seat.view in
     let w = c.try_step.new.seat.view in
-    let t = c.try_step.ensures.told in
+    let t = c.try_step.ensures in
     record {
-      book = t.0 ∙ i.book;
-      id = t.1 ∙ i.id;
-      keeps = keeps_then u v w i.keeps t.2;
-      seen = seen_since c.loop.seat.id id u v w i.id i.seen t.3;
+      book = t.book ∙ i.book;
+      id = t.id ∙ i.id;
+      keeps = keeps_then u v w i.keeps t.keeps;
+      seen = seen_since c.loop.seat.id id u v w i.id i.seen t.seen;
       position = tt;
-      before = c.try_step.ensures.before ∙ i.before;
+      before = t.before ∙ i.before;
     }

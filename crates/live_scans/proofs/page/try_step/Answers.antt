@@ -1,132 +1,131 @@
-use Rattle.std.proofs.Common.{rules, arith, refl, subst, None, ◌≡◌, ◌+◌, ◌∙◌}
+use Rattle.std.proofs.Common.{rules, arith, refl, subst, None, ◌≡◌, ◌+◌}
 use Rattle.std.proofs.lemmas.List.{length-map}
-use Rattle.live_reads.proofs.Finds.{keeps_then, when_out}
+use Rattle.live_reads.proofs.Finds.{when_out}
 use Rattle.live_layout.specs.Page.{pairs_of}
+use Rattle.live_scans.specs.inner.Stops.{IsPosition, IsAtLeaf, Reaches}
 use Rattle.live_scans.specs.inner.Steps.{IsStep}
-use Rattle.live_scans.specs.inner.Stops.{IsPosition, Reaches}
-use Rattle.live_scans.specs.declared.seek.Reach.TheVariants as reaches
-use Rattle.live_scans.proofs.Passes.{seen_equal, seen_since, gap_step, leaf_step}
-use Rattle.live_scans.proofs.Nexts.{reaches_since, position_on, cut_step, step_after}
 use Rattle.live_scans.proofs.Composed.{more_same}
+use Rattle.live_scans.proofs.Passes.{seen_equal, Stays, stays_then, reaches_since, gap_step, cut_step, leaf_step, step_after}
+use Rattle.live_scans.proofs.Nexts.{position_on, leaf_named}
+use Rattle.live_scans.proofs.page.try_step.Given.{Over}
 use Rattle.live_scans.proofs.page.try_step.Goals as goal
+use Rattle.live_scans.proofs.page.try_step.Goals.{After-seek_on, In_ok-sought, In-Leaf, After-leaf_page}
 
-pub returns-in_err-sought-clause-told : goal.returns-in_err-sought-clause-told
-returns-in_err-sought-clause-told g c =
-    let u = c.args.seat.now.view in
-    let id = c.args.seat.now.id in
-    let key = c.args.key in
-    let limit = c.args.limit in
-    let a = c.begin.new.seat.view in
-    let b = c.begin.ensures.told in
-    let w = c.seek_on.new.seat.view in
-    let t = c.seek_on.ensures.told in
-    let same = t.1 ∙ b.1 in
-    let keeps = keeps_then u a w b.2 t.2 in
-    let first_seen = seen_equal id u a b.3 in
-    let seen = seen_since c.begin.new.seat.id id u a w b.1 first_seen t.3 in
-    let out : c.from_residual-in_err-sought.result ≡ None = search rules in
-    (t.0 ∙ b.0, same, keeps, seen, when_out (λ s. IsPosition w s.position × IsStep id u w key limit c.args.start (pairs_of g.P.RangeEntry.pair c.args.buffer.now) s.step.count s.step.last) c.from_residual-in_err-sought.result out)
+-- THE READER has come to the end of its path
+module _ (g : Over) (c : After-seek_on g) where
+  begun : Stays c.args.seat.now.book c.begin.new.seat.book c.args.seat.now.id c.begin.new.seat.id c.args.seat.now.view c.begin.new.seat.view
+  begun =
+      let b = c.begin.ensures in
+      (b.book, b.id, b.keeps, seen_equal c.args.seat.now.id c.args.seat.now.view c.begin.new.seat.view b.seen)
 
-pub returns-in-Past-clause-told : goal.returns-in-Past-clause-told
-returns-in-Past-clause-told g c =
-    let u = c.args.seat.now.view in
-    let id = c.args.seat.now.id in
-    let key = c.args.key in
-    let limit = c.args.limit in
-    let a = c.begin.new.seat.view in
-    let b = c.begin.ensures.told in
-    let w = c.seek_on.new.seat.view in
-    let t = c.seek_on.ensures.told in
-    let same = t.1 ∙ b.1 in
-    let keeps = keeps_then u a w b.2 t.2 in
-    let first_seen = seen_equal id u a b.3 in
-    let seen = seen_since c.begin.new.seat.id id u a w b.1 first_seen t.3 in
-    let at = c.in_ok-at.ensures.told.4 in
-    let sought = c.in_ok-sought.ensures.told.4 in
-    let is : c.in_ok-sought.sought.reach ≡ reaches.Past c.in-Past.last = c.in-Past.is in
-    let reach = subst (Reaches id u w key) is (reaches_since c.begin.new.seat.id id u a w c.in_ok-at.at.key key c.in_ok-sought.sought.reach b.1 at.0 first_seen sought.1) in
-    let last = c.in-Past.last in
-    let low = reach.low in
-    let m = c.min.ensures in
-    (t.0 ∙ b.0, same, keeps, seen, (sought.0, gap_step id u w key limit c.args.start last c.min.result (pairs_of g.P.RangeEntry.pair c.args.buffer.now) reach (omega (arith, m)) (omega (arith, m)) (λ less. omega (arith, m, less)) (let o = c.requires.order in omega (arith, m, low, o)) (let n = length-map c.args.buffer.now g.P.RangeEntry.pair in omega (arith, n, c.requires.start))))
+  sought : Stays c.args.seat.now.book c.seek_on.new.seat.book c.args.seat.now.id c.seek_on.new.seat.id c.args.seat.now.view c.seek_on.new.seat.view
+  sought =
+      let t = c.seek_on.ensures in
+      stays_then c.args.seat.now.book c.begin.new.seat.book c.seek_on.new.seat.book c.args.seat.now.id c.begin.new.seat.id c.seek_on.new.seat.id c.args.seat.now.view c.begin.new.seat.view c.seek_on.new.seat.view begun (t.book, t.id, t.keeps, t.seen)
 
-pub returns-then-first-limit-clause-told : goal.returns-then-first-limit-clause-told
-returns-then-first-limit-clause-told g c =
-    let u = c.args.seat.now.view in
-    let id = c.args.seat.now.id in
-    let key = c.args.key in
-    let limit = c.args.limit in
-    let a = c.begin.new.seat.view in
-    let b = c.begin.ensures.told in
-    let w = c.seek_on.new.seat.view in
-    let t = c.seek_on.ensures.told in
-    let same = t.1 ∙ b.1 in
-    let keeps = keeps_then u a w b.2 t.2 in
-    let first_seen = seen_equal id u a b.3 in
-    let seen = seen_since c.begin.new.seat.id id u a w b.1 first_seen t.3 in
-    let at = c.in_ok-at.ensures.told.4 in
-    let sought = c.in_ok-sought.ensures.told.4 in
-    let is : c.in_ok-sought.sought.reach ≡ reaches.Leaf c.in-Leaf.name c.in-Leaf.first = c.in-Leaf.is in
-    let reach = subst (Reaches id u w key) is (reaches_since c.begin.new.seat.id id u a w c.in_ok-at.at.key key c.in_ok-sought.sought.reach b.1 at.0 first_seen sought.1) in
-    (t.0 ∙ b.0, same, keeps, seen, (sought.0, cut_step id u w key limit c.args.start c.in-Leaf.first (pairs_of g.P.RangeEntry.pair c.args.buffer.now) c.requires.order (omega (arith, c.if-first-limit.true)) (let n = length-map c.args.buffer.now g.P.RangeEntry.pair in omega (arith, n, c.requires.start)) reach.3))
+-- where that is, by the key
+module _ (g : Over) (c : In_ok-sought g) where
+  reach : Reaches c.args.bound.up c.args.seat.now.id c.args.seat.now.view c.seek_on.new.seat.view c.args.key c.in_ok-sought.sought.reach
+  reach =
+      let b = begun g (goal.at.In_ok-sought g c).After-seek_on in
+      reaches_since c.args.bound.up c.begin.new.seat.id c.args.seat.now.id c.args.seat.now.view c.begin.new.seat.view c.seek_on.new.seat.view c.in_ok-at.at.key c.args.key c.in_ok-sought.sought.reach b.1 c.in_ok-at.ensures.position.0 b.3 c.in_ok-sought.ensures.reaches
 
-pub returns-in_err-filled-in-Leaf-clause-told : goal.returns-in_err-filled-in-Leaf-clause-told
-returns-in_err-filled-in-Leaf-clause-told g c =
-    let u = c.args.seat.now.view in
-    let id = c.args.seat.now.id in
-    let key = c.args.key in
-    let limit = c.args.limit in
-    let a = c.begin.new.seat.view in
-    let b = c.begin.ensures.told in
+module _ (g : Over) (c : In-Leaf g) where
+  at_leaf : IsAtLeaf c.args.bound.up c.args.seat.now.id c.args.seat.now.view c.seek_on.new.seat.view c.args.key c.in-Leaf.name c.in-Leaf.first
+  at_leaf = subst (Reaches c.args.bound.up c.args.seat.now.id c.args.seat.now.view c.seek_on.new.seat.view c.args.key) c.in-Leaf.is (reach g (goal.at.In-Leaf g c).In_ok-sought)
+
+-- A LEAF was read
+module _ (g : Over) (c : After-leaf_page g) where
+  read : Stays c.args.seat.now.book c.leaf_page.new.seat.book c.args.seat.now.id c.leaf_page.new.seat.id c.args.seat.now.view c.leaf_page.new.seat.view
+  read =
+      let e = c.leaf_page.ensures in
+      stays_then c.args.seat.now.book c.seek_on.new.seat.book c.leaf_page.new.seat.book c.args.seat.now.id c.seek_on.new.seat.id c.leaf_page.new.seat.id c.args.seat.now.view c.seek_on.new.seat.view c.leaf_page.new.seat.view (sought g (goal.at.After-leaf_page g c).After-seek_on) (e.book, e.id, e.keeps, e.seen)
+
+pub returns-in_err-sought : goal.returns-in_err-sought
+returns-in_err-sought g c =
     let w = c.seek_on.new.seat.view in
-    let t = c.seek_on.ensures.told in
-    let same = t.1 ∙ b.1 in
-    let keeps = keeps_then u a w b.2 t.2 in
-    let first_seen = seen_equal id u a b.3 in
-    let seen = seen_since c.begin.new.seat.id id u a w b.1 first_seen t.3 in
+    let t = sought g (goal.at.returns-in_err-sought g c).After-seek_on in
+    let out : c.from_residual-in_err-sought.result ≡ None = search rules in record {
+      before = refl;
+      book = t.0;
+      id = t.1;
+      keeps = t.2;
+      seen = t.3;
+      position = when_out (λ s. IsPosition w s.position) c.from_residual-in_err-sought.result out;
+      step = when_out (λ s. IsStep c.args.bound.up c.args.seat.now.id c.args.seat.now.view w c.args.key c.args.bound.limit c.args.start (pairs_of g.P.RangeEntry.pair c.args.buffer.now) s.step.count s.step.last) c.from_residual-in_err-sought.result out;
+    }
+
+pub returns-in-Past : goal.returns-in-Past
+returns-in-Past g c =
+    let at = goal.at.returns-in-Past g c in
+    let t = sought g at.After-seek_on in
+    let passed = subst (Reaches c.args.bound.up c.args.seat.now.id c.args.seat.now.view c.seek_on.new.seat.view c.args.key) c.in-Past.is (reach g at.In_ok-sought) in
+    let m = c.nearer.ensures in
+    let n = length-map c.args.buffer.now g.P.RangeEntry.pair in record {
+      before = refl;
+      book = t.0;
+      id = t.1;
+      keeps = t.2;
+      seen = t.3;
+      position = c.in_ok-sought.ensures.position;
+      step = gap_step c.args.bound.up c.args.seat.now.id c.args.seat.now.view c.seek_on.new.seat.view c.args.key c.args.bound.limit c.args.start c.in-Past.last c.nearer.result (pairs_of g.P.RangeEntry.pair c.args.buffer.now) passed c.requires.order m.passed m.within m.is (omega (arith, n, c.requires.start));
+    }
+
+pub returns-then-is_behind : goal.returns-then-is_behind
+returns-then-is_behind g c =
+    let at = goal.at.returns-then-is_behind g c in
+    let t = sought g at.After-seek_on in
+    let n = length-map c.args.buffer.now g.P.RangeEntry.pair in record {
+      before = refl;
+      book = t.0;
+      id = t.1;
+      keeps = t.2;
+      seen = t.3;
+      position = c.in_ok-sought.ensures.position;
+      step = cut_step c.args.bound.up c.args.seat.now.id c.args.seat.now.view c.seek_on.new.seat.view c.in-Leaf.name c.args.key c.args.bound.limit c.args.start c.in-Leaf.first (pairs_of g.P.RangeEntry.pair c.args.buffer.now) c.requires.order (c.is_behind.ensures.behind (search rules)) (omega (arith, n, c.requires.start)) (at_leaf g at.In-Leaf);
+    }
+
+pub leaf_page-requires-clause-named : goal.leaf_page-requires-clause-named
+leaf_page-requires-clause-named g c =
+    let p = c.part_of-part.result in
+    let q = c.part_of-part.ensures in
+    leaf_named c.args.bound.up c.args.seat.now.id c.args.seat.now.view c.seek_on.new.seat.view c.args.key c.in-Leaf.name c.in-Leaf.first p.base p.first p.last (at_leaf g (goal.at.leaf_page-requires-clause-named g c).In-Leaf) q.base.0 q.begins q.order (omega arith)
+
+pub returns-in_err-filled-in-Leaf : goal.returns-in_err-filled-in-Leaf
+returns-in_err-filled-in-Leaf g c =
     let x = c.leaf_page.new.seat.view in
-    let e = c.leaf_page.ensures.told in
-    let out : c.from_residual-in_err-filled-in-Leaf.result ≡ None = search rules in (
-      e.0 ∙ (t.0 ∙ b.0),
-      e.1 ∙ same,
-      keeps_then u w x keeps e.2,
-      seen_since c.seek_on.new.seat.id id u w x same seen e.3,
-      when_out (λ s. IsPosition x s.position × IsStep id u x key limit c.args.start (pairs_of g.P.RangeEntry.pair c.leaf_page.new.buffer) s.step.count s.step.last) c.from_residual-in_err-filled-in-Leaf.result out,
-    )
+    let t = read g (goal.at.returns-in_err-filled-in-Leaf g c).After-leaf_page in
+    let out : c.from_residual-in_err-filled-in-Leaf.result ≡ None = search rules in record {
+      before = c.leaf_page.ensures.before;
+      book = t.0;
+      id = t.1;
+      keeps = t.2;
+      seen = t.3;
+      position = when_out (λ s. IsPosition x s.position) c.from_residual-in_err-filled-in-Leaf.result out;
+      step = when_out (λ s. IsStep c.args.bound.up c.args.seat.now.id c.args.seat.now.view x c.args.key c.args.bound.limit c.args.start (pairs_of g.P.RangeEntry.pair c.leaf_page.new.buffer) s.step.count s.step.last) c.from_residual-in_err-filled-in-Leaf.result out;
+    }
 
-pub returns-in_ok-filled-in-Leaf-clause-told : goal.returns-in_ok-filled-in-Leaf-clause-told
-returns-in_ok-filled-in-Leaf-clause-told g c =
-    let u = c.args.seat.now.view in
-    let id = c.args.seat.now.id in
-    let key = c.args.key in
-    let limit = c.args.limit in
-    let a = c.begin.new.seat.view in
-    let b = c.begin.ensures.told in
+pub returns-in_ok-filled-in-Leaf : goal.returns-in_ok-filled-in-Leaf
+returns-in_ok-filled-in-Leaf g c =
+    let at = goal.at.returns-in_ok-filled-in-Leaf g c in
+    let t = read g at.After-leaf_page in
+    let before = sought g at.After-seek_on in
+    let up = c.args.bound.up in
     let w = c.seek_on.new.seat.view in
-    let t = c.seek_on.ensures.told in
-    let same = t.1 ∙ b.1 in
-    let keeps = keeps_then u a w b.2 t.2 in
-    let first_seen = seen_equal id u a b.3 in
-    let seen = seen_since c.begin.new.seat.id id u a w b.1 first_seen t.3 in
-    let at = c.in_ok-at.ensures.told.4 in
-    let sought = c.in_ok-sought.ensures.told.4 in
-    let is : c.in_ok-sought.sought.reach ≡ reaches.Leaf c.in-Leaf.name c.in-Leaf.first = c.in-Leaf.is in
-    let reach = subst (Reaches id u w key) is (reaches_since c.begin.new.seat.id id u a w c.in_ok-at.at.key key c.in_ok-sought.sought.reach b.1 at.0 first_seen sought.1) in
     let x = c.leaf_page.new.seat.view in
-    let o = c.in_ok-filled-in-Leaf in
-    let e = o.ensures.told in
-    let f = o.ensures.filled in
+    let e = c.in_ok-filled-in-Leaf.ensures in
+    let o = c.in_ok-filled-in-Leaf.filled in
+    let f = e.filled in
     let p = c.part_of-part.result in
     let q = c.part_of-part.ensures in
     let n = length-map c.leaf_page.new.buffer g.P.RangeEntry.pair in
     let buffer = pairs_of g.P.RangeEntry.pair c.leaf_page.new.buffer in
-    let leaf = leaf_step c.seek_on.new.seat.id c.seek_on.new.seat.id w w x c.in-Leaf.first limit c.args.start p.base p.first p.last o.filled.count o.filled.reached buffer refl (more_same c.seek_on.new.seat.id w.client.seen) q.base.0 q.first.0 q.last.0 q.last.1 f.0 (omega (arith, n, f)) f.2 f.3 (λ ne. omega (arith, n, f.4 ne)) e.4 in (
-      e.0 ∙ (t.0 ∙ b.0),
-      e.1 ∙ same,
-      keeps_then u w x keeps e.2,
-      seen_since c.seek_on.new.seat.id id u w x same seen e.3,
-      (
-        position_on w x c.in_ok-sought.sought.position e.2 sought.0,
-        step_after c.seek_on.new.seat.id id u w x key c.in-Leaf.first limit c.args.start o.filled.count (p.base + o.filled.reached) buffer same seen reach.3 reach.0 reach.1 leaf,
-      ),
-    )
+    let leaf = leaf_step up c.seek_on.new.seat.id c.seek_on.new.seat.id w w x c.in-Leaf.first c.args.bound.limit c.args.start p.base p.first p.last o.count o.reached buffer refl (more_same c.seek_on.new.seat.id w.client.seen) q.base.0 q.begins q.within q.whole f.0 (omega (arith, n, f)) f.2 f.3 (omega arith) (λ ne. omega (arith, n, f.4 ne)) e.reads in record {
+      before = e.before;
+      book = t.0;
+      id = t.1;
+      keeps = t.2;
+      seen = t.3;
+      position = position_on w x c.in_ok-sought.sought.position e.keeps c.in_ok-sought.ensures.position;
+      step = step_after up c.seek_on.new.seat.id c.args.seat.now.id c.args.seat.now.view w x c.in-Leaf.name c.args.key c.in-Leaf.first c.args.bound.limit c.args.start o.count (p.base + o.reached) buffer before.1 before.3 (at_leaf g at.In-Leaf) leaf;
+    }

@@ -19,46 +19,46 @@ returns-then-is_empty-clause-page g c =
     page_roomless c.args.guard.now c.begin_only-then-is_empty.new.guard c.args.first (c.args.last + 1) (length c.args.buffer.now) (omega arith) none c.in_ok-begin_only-2.ensures.begun
 
 pub invariant_of-guard : goal.invariant_of-guard
-invariant_of-guard g c = ready_kept c.guard.inside.seat.view c.start.new.seat.view c.guard.inside.room c.guard.invariant c.start.ensures.told.2
+invariant_of-guard g c = ready_kept c.guard.inside.seat.view c.start.new.seat.view c.guard.inside.room c.guard.invariant c.start.ensures.keeps
 
 pub page-requires-clause-root_word : goal.page-requires-clause-root_word
-page-requires-clause-root_word g c = c.in-Some.ensures.told.2.places (place 0 1 1) c.guard.invariant.root_word
+page-requires-clause-root_word g c = c.in-Some.ensures.keeps.places (place 0 1 1) c.guard.invariant.root_word
 
 pub invariant_of-guard-in_default-page : goal.invariant_of-guard-in_default-page
 invariant_of-guard-in_default-page g c =
     let u = c.guard.inside.seat.view in
     let v = c.start.new.seat.view in
     let w = c.page.new.seat.view in
-    ready_kept u w c.guard.inside.room c.guard.invariant (keeps_then u v w c.in-Some.ensures.told.2 c.in_default-page.ensures.told.2)
+    ready_kept u w c.guard.inside.room c.guard.invariant (keeps_then u v w c.in-Some.ensures.keeps c.in_default-page.ensures.keeps)
 
 pub returns-in_default-page-clause-busy : goal.returns-in_default-page-clause-busy
 returns-in_default-page-clause-busy g c =
     let u = c.guard.inside.seat in
     let v = c.start.new.seat in
     let w = c.page.new.seat in
-    let s = c.in-Some.ensures.told in
-    let t = c.in_default-page.ensures.told in
+    let s = c.in-Some.ensures in
+    let t = c.in_default-page.ensures in
     let first : known_of u.book u.id u.view ≡ c.args.guard.now = search rules in
-    inr (subst (λ (z : Known). HasBegun z (known_of w.book w.id w.view)) first (begun_by u.book v.book w.book u.id v.id w.id u.view v.view w.view s.0 s.1 t.0 t.1 s.3.0 t.3))
+    inr (subst (λ (z : Known). HasBegun z (known_of w.book w.id w.view)) first (begun_by u.book v.book w.book u.id v.id w.id u.view v.view w.view s.book s.id t.book t.id s.starts.0 t.seen))
 
 pub invariant_of-guard-2 : goal.invariant_of-guard-2
 invariant_of-guard-2 g c =
     let u = c.guard.inside.seat.view in
     let v = c.start.new.seat.view in
     let w = c.page.new.seat.view in
-    ready_kept u w c.guard.inside.room c.guard.invariant (keeps_then u v w c.in-Some.ensures.told.2 c.in-Some-page.ensures.told.2)
+    ready_kept u w c.guard.inside.room c.guard.invariant (keeps_then u v w c.in-Some.ensures.keeps c.in-Some-page.ensures.keeps)
 
 pub returns-clause-page : goal.returns-clause-page
 returns-clause-page g c =
     let u = c.guard.inside.seat in
     let v = c.start.new.seat in
     let w = c.page.new.seat in
-    let s = c.in-Some.ensures.told in
-    let t = c.in-Some-page.ensures.told in
+    let s = c.in-Some.ensures in
+    let t = c.in-Some-page.ensures in
     let e = c.in-Some-page.step in
     let l = c.page.new.buffer in
     let pair = g.P.RangeEntry.pair in
     let same : length (pairs_of pair l) ≡ length c.args.buffer.now = length-map l pair ∙ search rules in
     let first : known_of u.book u.id u.view ≡ c.args.guard.now = search rules in
     subst (λ (z : Known × ℕ). HasPage z.0 c.args.first (c.args.last + 1) z.1 (take e.count (pairs_of pair l)) (known_of w.book w.id w.view)) (λ i. (first i, same i))
-    (page_seat u.book v.book w.book u.id v.id w.id u.view v.view w.view c.args.first c.args.last e.count e.last (pairs_of pair l) s.0 s.1 t.0 t.1 s.3.0 t.3 t.4)
+    (page_seat u.book v.book w.book u.id v.id w.id u.view v.view w.view c.args.first c.args.last e.count e.last (pairs_of pair l) s.book s.id t.book t.id s.starts.0 t.seen t.page)

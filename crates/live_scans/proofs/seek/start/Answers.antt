@@ -16,7 +16,12 @@ returns-in-Some c =
     let w = c.root_begun.new.seat.view in
     let t = c.in-Some.ensures.told in
     let began = subst (λ (z : ℕ × List (Entry ℕ)). Begins z.0 z.1 w.client.seen) (λ j. (i.id j, i.seen j)) t.3 in
-    record { told = (t.0 ∙ i.book, t.1 ∙ i.id, keeps_then u v w i.keeps t.2, (began, refl, refl, (omega arith, omega arith, t.4))) }
+    record {
+      book = t.0 ∙ i.book;
+      id = t.1 ∙ i.id;
+      keeps = keeps_then u v w i.keeps t.2;
+      starts = (began, refl, refl, (omega arith, omega arith, t.4));
+    }
 
 pub loop-preserved : goal.loop-preserved
 loop-preserved c =

@@ -39,9 +39,14 @@ fn by_number(map: &mut U64Congee<u64>) -> Result<[u128; 6], OOMError> {
     Ok([removed, extracted, last, asked, left, map.charged()])
 }
 
+fn by_number_on_new_map(alloc: Global) -> Result<[u128; 6], OOMError> {
+    let mut map = U64Congee::new(alloc)?;
+    by_number(&mut map)
+}
+
 #[test]
 fn numbers(rt: HostRuntime) -> Result<(), Fail> {
-    assert!(rt; by_number(&mut U64Congee::new(rt.alloc())?)? == WANTED);
+    assert!(rt; by_number_on_new_map(rt.alloc())? == WANTED);
     Ok(())
 }
 

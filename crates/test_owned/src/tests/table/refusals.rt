@@ -146,5 +146,5 @@ fn right_refusals(alloc: Global) -> u32 {
 
 #[test]
 fn each_request_refused(rt: HostRuntime) {
-    assert_eq!(rt; right_refusals(rt.alloc()), 14);
+    assert!(rt; right_refusals(rt.alloc()) == 14);
 }

@@ -1,5 +1,5 @@
 use Rattle.std.proofs.Common.{rules, ◌≡◌, ℕ, ◌+◌, length, take, subst, arith}
-use Rattle.live_descents.specs.Descents.{HasPageDown}
+use Rattle.live_scans.specs.Descents.{HasPageDown}
 use Rattle.live_scans.proofs.Pages.{waited_none, waited_busy}
 use Rattle.live_faces.proofs.typed_congee.Congee.range_descending.Goals as goal
 

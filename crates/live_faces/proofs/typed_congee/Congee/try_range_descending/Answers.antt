@@ -1,7 +1,7 @@
 use Rattle.std.proofs.Common.{ℕ, ◌+◌, length, take, IfOk, subst}
 use Rattle.std.proofs.lemmas.List.{map-id}
 use Rattle.spec_map.specs.Map.{Pairs}
-use Rattle.live_descents.specs.Descents.{HasPageDown}
+use Rattle.live_scans.specs.Descents.{HasPageDown}
 use Rattle.live_faces.proofs.typed_congee.Congee.try_range_descending.Goals as goal
 
 -- numbers are written as they are

@@ -1,7 +1,7 @@
-use Rattle.std.proofs.Common.{◌≡◌, ◌∙◌, None, Some, sym, ap, subst}
-use Rattle.live_law.specs.Known.{Known}
+use Rattle.std.proofs.Common.{◌∙◌, sym, ap, subst}
 use Rattle.live_slots.specs.Tickets.{HasIssued}
-use Rattle.live_growth.specs.declared.map.Refusal.TheVariants.{Busy as IsBusy}
+use Rattle.live_payloads.specs.Payloads.{PayloadsKnown}
+use Rattle.live_payloads.specs.Tries.{AddsPayload}
 use Rattle.live_payloads.proofs.Looked.{issued_on}
 use Rattle.live_payloads.proofs.Tried.{found_other, was_busy, lent_is, adds_now}
 use Rattle.live_payloads.proofs.payload_congee.PayloadCongee.add.Goals as goal
@@ -19,10 +19,12 @@ returns-in-Ok-None-clause-added g c =
     let log = c.lend.new.guard.log in
     let issued = issued_on c.issue.new.guard.log log ticket payload c.lend.ensures.map.2 c.in_ok-ticket.ensures.issued in
     let is = c.guard.view_is in
+    let n : PayloadsKnown g.row.P.Denot = record { tickets = c.get_or_insert.new.guard; table = c.guard.inside.seen.book; log = c.guard.inside.seen.log } in
     let same = ap (λ k. k.tickets) is ∙ (c.lend.ensures.tickets ∙ c.issue.ensures.tickets) in (
-      lent_is log c.guard.inside.seen.log ticket c.in-Some.lent.value payload (ap (λ k. k.log) is) c.in-Some.ensures.payload issued c.agree.ensures.once,
-      adds_now c.args.number ticket payload c.args.guard.now (record { tickets = c.get_or_insert.new.guard; table = c.guard.inside.seen.book; log = c.guard.inside.seen.log }) c.guard.inside.guard c.in-Ok-None.field-0 c.in-Ok-None.field-0-is same c.in_ok-ticket.ensures.first
-          (subst (λ k. HasIssued k.log ticket payload) (sym is) issued) c.in-Ok-None.ensures.made,
+      lent_is log c.guard.inside.seen.log ticket c.in-Some.lent.value payload (ap (λ k. k.log) is) c.in-Some.ensures.payload.1 issued c.agree.ensures.once,
+      subst (λ t. AddsPayload c.args.number t payload c.args.guard.now n) (sym c.in-Some.ensures.payload.0)
+          (adds_now c.args.number ticket payload c.args.guard.now n c.guard.inside.guard c.in-Ok-None.field-0 c.in-Ok-None.field-0-is same c.in_ok-ticket.ensures.first
+          (subst (λ k. HasIssued k.log ticket payload) (sym is) issued) c.in-Ok-None.ensures.made),
     )
 
 pub returns-clause-busy : goal.returns-clause-busy

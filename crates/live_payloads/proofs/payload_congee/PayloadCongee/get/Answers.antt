@@ -1,11 +1,10 @@
-use Rattle.live_payloads.specs.Payloads.{lent_value}
 use Rattle.live_payloads.proofs.Looked.{knows_on, vain_on, gets_on}
 use Rattle.live_payloads.proofs.payload_congee.PayloadCongee.get.Goals as goal
 
 pub returns-in-Ok-clause-made : goal.returns-in-Ok-clause-made
 returns-in-Ok-clause-made g c =
     let key = g.K.Word.number c.args.key.now in
-    gets_on key c.args.guard.now c.loop.guard c.try_get.new.guard (lent_value c.in-Ok.found) c.loop.invariant.1 c.in-Ok.ensures.made
+    gets_on key c.args.guard.now c.loop.guard c.try_get.new.guard c.in-Ok.found c.loop.invariant.1 c.in-Ok.ensures.made
 
 pub loop-preserved : goal.loop-preserved
 loop-preserved g c =

@@ -1,5 +1,5 @@
 use Rattle.std.proofs.Common.{subst}
-use Rattle.live_payloads.specs.Payloads.{InsertsPayload, lent_value}
+use Rattle.live_payloads.specs.Payloads.{InsertsPayload}
 use Rattle.live_payloads.proofs.Looked.{inserts_on}
 use Rattle.live_payloads.proofs.payload_congee.PayloadCongee.insert.Goals as goal
 
@@ -8,6 +8,6 @@ returns-in-Ok-clause-made g c =
     let key = g.K.Word.number c.args.key in
     let m = c.loop.guard in
     let n = c.try_insert.new.guard in
-    let before = lent_value c.in-Ok.before in
+    let before = c.in-Ok.before in
     let made = subst (λ v. InsertsPayload key v m before n) c.loop.invariant.0 c.in-Ok.ensures.made in
     inserts_on key c.args.payload c.args.guard.now m n before c.loop.invariant.1 c.loop.invariant.2.2 made

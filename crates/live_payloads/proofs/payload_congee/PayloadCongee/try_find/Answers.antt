@@ -1,5 +1,4 @@
-use Rattle.std.proofs.Common.{rules, ◌≡◌, Some, None, Option, Result, Ok, Err, IfSome, IfNone, OnErr, subst}
-use Rattle.live_payloads.specs.Payloads.{PayloadsKnown}
+use Rattle.std.proofs.Common.{rules, ◌≡◌, Some, None, Result, Ok, Err, IfSome, IfNone, OnErr, subst}
 use Rattle.live_payloads.specs.Tries.{MissedNeighbour, FindsNeighbour}
 use Rattle.live_payloads.proofs.Looked.{knows_on}
 use Rattle.live_payloads.proofs.Tried.{tried_more, neighbour_on}

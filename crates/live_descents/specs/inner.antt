@@ -1,2 +1,0 @@
-pub mod Downs
-pub mod Steps

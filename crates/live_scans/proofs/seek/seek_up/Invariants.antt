@@ -1,0 +1,21 @@
+use Rattle.std.proofs.Common.{◌≡◌, ◌⊎◌, ◌%◌, ◌≤◌, true, []}
+use Rattle.live_scans.specs.inner.Moments.{SeesMore}
+use Rattle.live_reads.specs.Paths.{Keeps}
+use Rattle.live_scans.specs.Scans.{HasRead}
+use Rattle.live_scans.specs.inner.Stops.{IsPosition}
+use Rattle.live_scans.proofs.seek.seek_up.Given as goal
+
+abbrev pub invariant-loop-last : goal.invariant-loop-last
+invariant-loop-last g l = record {
+  book : l.seat.book ≡ l.fn.seat.book;
+  id : l.seat.id ≡ l.fn.seat.id;
+  keeps : Keeps l.fn.seat.view l.seat.view;
+  seen : SeesMore l.seat.view.client.seen l.fn.seat.id l.fn.seat.view.client.seen;
+  position : IsPosition l.seat.view l.at;
+  low : l.fn.position.key ≤ l.at.key;
+  seam : (l.at.key % 256 ≡ 0) ⊎ (l.fn.position.key ≡ l.at.key);
+  read : HasRead true l.fn.seat.view.client.seen l.seat.view.client.seen l.fn.position.key l.at.key [];
+}
+
+abbrev pub decreases-loop-last : goal.decreases-loop-last
+decreases-loop-last g l = l.at.height

@@ -1,0 +1,9 @@
+//! The place of a reader in the tree.
+
+/// A node that a reader has come to, its height, and a key that begins like it.
+#[derive(Clone, Copy, Debug, PartialEq, Eq)]
+pub struct Position {
+    pub name: u64,
+    pub height: usize,
+    pub key: u64,
+}
