@@ -11,6 +11,7 @@ mod exchanges;
 mod get_or_insert;
 mod neighbours;
 pub mod owners;
+mod pages;
 mod pops;
 mod updates;
 
@@ -105,8 +106,9 @@ impl<K: Word, P: Drop> PayloadCongee<K, P> {
         self.pool.unpin(guard);
     }
 
-    // The payload of a ticket, in its slot. `None` if the ticket is retired by then, or the slot counts as many readers as it can.
-    fn lend(&self, guard: &mut PayloadGuard<P>, ticket: u64) -> Option<Lent<'_, P>>
+    /// The payload of a ticket that a page has, in its slot. `None` if the ticket is retired by then, as its key was removed or got
+    /// another payload, or if the slot counts as many readers as it can.
+    pub fn lend(&self, guard: &mut PayloadGuard<P>, ticket: u64) -> Option<Lent<'_, P>>
         requires map { IsGuardOf self.now guard.old }
         ensures map { KnowsMore guard.old guard.new }
         ensures tickets { guard.new.tickets ≡ guard.old.tickets }

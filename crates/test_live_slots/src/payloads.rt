@@ -8,6 +8,7 @@ mod computed;
 mod exchanges;
 mod limits;
 mod neighbours;
+mod pages;
 mod refusals;
 
 use live_payloads::live::{CongeeArc, PayloadGuard};
