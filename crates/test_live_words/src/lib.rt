@@ -13,3 +13,5 @@ mod book;
 mod nodes;
 #[cfg(test)]
 mod rows;
+#[cfg(test)]
+mod steps;

@@ -51,17 +51,34 @@ fn a_leaf_is_read_as_it_was_made_and_written(rt: HostRuntime) -> Result<(), Fail
     Ok(())
 }
 
+// A number, and the key of the leaf of it, which lies in a segment of its own.
+const KEYS: [(u64, u64); 9] = [
+    (1, 3),
+    (2, 1_027),
+    (3, 3_075),
+    (4, 7_171),
+    (4, 15_363),
+    (4, 31_747),
+    (4, 64_515),
+    (5, 130_051),
+    (6, 195_587),
+];
+
+// How many leaves have the keys that they should.
+fn right_keys(nodes: &Nodes, alloc: Global) -> usize {
+    let mut right = 0usize;
+    for (x, key) in KEYS {
+        if named(nodes, alloc, x) == key {
+            right = right.wrapping_add(1);
+        }
+    }
+    right
+}
+
 #[test]
 fn each_leaf_lies_in_its_own_segment(rt: HostRuntime) -> Result<(), Fail> {
     let nodes = new_nodes(rt.alloc())?;
-    assert!(rt; named(&nodes, rt.alloc(), 1) == 3);
-    assert!(rt; named(&nodes, rt.alloc(), 2) == 3 + 1024);
-    assert!(rt; named(&nodes, rt.alloc(), 3) == 3 + 3 * 1024);
-    for _ in 0..4u32 {
-        assert!(rt; named(&nodes, rt.alloc(), 4) != 0);
-    }
-    assert!(rt; named(&nodes, rt.alloc(), 5) == 3 + 127 * 1024);
-    assert!(rt; named(&nodes, rt.alloc(), 6) == 3 + 191 * 1024);
+    assert!(rt; right_keys(&nodes, rt.alloc()) == KEYS.len());
     assert!(rt; looked(&nodes) == Some((6, 6)));
     Ok(())
 }

@@ -2,7 +2,9 @@
 
 use crate::rows::grow::{grow_node, name, new_leaf};
 use crate::rows::leaf::{Nodes, Outcome, child, enter, get, new_nodes, set};
+use crate::steps::all_hold;
 use std::alloc::Global;
+use std::process::Abort;
 use std::test::Fail;
 use std::thread::{Threads, join};
 
@@ -45,33 +47,54 @@ fn a_root_names_no_leaf_at_first(rt: HostRuntime) -> Result<(), Fail> {
     Ok(())
 }
 
+// Writes under each of the bytes in turn. How many writes came through.
+fn written_under(nodes: &Nodes, bytes: &[u8], times: u32) -> usize {
+    let mut done = 0usize;
+    for byte in bytes {
+        if written(nodes, *byte, times) == Outcome::Done {
+            done = done.wrapping_add(1);
+        }
+    }
+    done
+}
+
+fn write_and_look(rt: &impl Abort, alloc: Global, nodes: &Nodes) {
+    let steps = [
+        planted(nodes, alloc),
+        looked(nodes, 7) == Some(None),
+        written_under(nodes, &[7, 0, 255, 9], 3) == 4,
+        written(nodes, 255, 4) == Outcome::Done,
+        looked(nodes, 7) == Some(Some(775)),
+        looked(nodes, 0) == Some(Some(768)),
+        looked(nodes, 255) == Some(Some(1279)),
+        looked(nodes, 8) == Some(None),
+    ];
+    all_hold(rt, &steps);
+}
+
 #[test]
 fn a_leaf_has_what_was_written_last(rt: HostRuntime) -> Result<(), Fail> {
     let nodes = new_nodes(rt.alloc())?;
-    assert!(rt; planted(&nodes, rt.alloc()));
-    assert!(rt; looked(&nodes, 7) == Some(None));
-    for byte in [7u8, 0, 255, 9] {
-        assert!(rt; written(&nodes, byte, 3) == Outcome::Done);
-    }
-    assert!(rt; written(&nodes, 255, 4) == Outcome::Done);
-    assert!(rt; looked(&nodes, 7) == Some(Some(775)));
-    assert!(rt; looked(&nodes, 0) == Some(Some(768)));
-    assert!(rt; looked(&nodes, 255) == Some(Some(1279)));
-    assert!(rt; looked(&nodes, 8) == Some(None));
+    write_and_look(&rt, rt.alloc(), &nodes);
     Ok(())
+}
+
+fn write_five(rt: &impl Abort, alloc: Global, nodes: &Nodes) {
+    let steps = [
+        planted(nodes, alloc),
+        written_under(nodes, &[1, 2, 3, 4], 1) == 4,
+        written(nodes, 5, 1) == Outcome::Full,
+        looked(nodes, 5) == Some(None),
+        written(nodes, 4, 2) == Outcome::Done,
+        looked(nodes, 4) == Some(Some(516)),
+    ];
+    all_hold(rt, &steps);
 }
 
 #[test]
 fn a_leaf_of_four_is_full_with_four(rt: HostRuntime) -> Result<(), Fail> {
     let nodes = new_nodes(rt.alloc())?;
-    assert!(rt; planted(&nodes, rt.alloc()));
-    for byte in [1u8, 2, 3, 4] {
-        assert!(rt; written(&nodes, byte, 1) == Outcome::Done);
-    }
-    assert!(rt; written(&nodes, 5, 1) == Outcome::Full);
-    assert!(rt; looked(&nodes, 5) == Some(None));
-    assert!(rt; written(&nodes, 4, 2) == Outcome::Done);
-    assert!(rt; looked(&nodes, 4) == Some(Some(516)));
+    write_five(&rt, rt.alloc(), &nodes);
     Ok(())
 }
 
