@@ -9,3 +9,5 @@ mod churn;
 mod refusals;
 #[cfg(test)]
 mod rows;
+#[cfg(test)]
+mod withdrawals;

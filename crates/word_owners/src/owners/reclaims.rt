@@ -1,5 +1,5 @@
 //! Tickets are retired, and their owners come back.
-ghost use Rattle.std.specs.Prelude.{◌≡◌, ◌⊎◌, ℕ, ◌+◌, ◌<◌, ◌≤◌, true, false, length, IfSome, IfNone};
+ghost use Rattle.std.specs.Prelude.{◌≡◌, ◌⊎◌, ℕ, ◌+◌, ◌<◌, ◌≤◌, true, false, List, length, IfSome, IfNone};
 ghost use Rattle.word_hazards.specs.Views.{slot_of, In, HasReclaimed};
 ghost use Rattle.word_hazards.specs.Steps.{retiring, peeking, reclaiming};
 ghost use Rattle.word_owners.specs.Known.{Reclaims, ReclaimsNone};
@@ -283,6 +283,47 @@ impl Owners {
         self.reclaim_slot(
             &mut handle.retired,
             &handle.found,
+            &mut handle.spare,
+            &mut handle.seat,
+        )
+    }
+
+    fn withdraw_by(
+        &self,
+        ticket: u64,
+        found: &mut Vec<u64>,
+        spare: &mut Vec<u64>,
+        seat: &mut HazardSeat,
+    ) -> Option<u64>
+        requires table { seat.old.book ≡ self.now }
+        requires room { (64 ≤ found.old.cap) × (128 ≤ spare.old.cap) }
+        ensures table { seat.new.book ≡ seat.old.book }
+        ensures withdrawn { IfSome result (λ o. Reclaims seat.old.view seat.new.view ticket o) }
+        ensures none { IfNone result (ReclaimsNone seat.old.view seat.new.view) }
+        ensures rows { (row : List ℕ) → AreRetired seat.old.view row → AreRetired seat.new.view row }
+        ensures room { (found.new.cap ≡ found.old.cap) × (spare.new.cap ≡ spare.old.cap) }
+    {
+        if !self.retire_by(ticket, seat) {
+            return None;
+        }
+        self.scan(found, seat);
+        let owner = self.reclaim_one(ticket, found, seat)?;
+        self.release(ticket, spare, seat);
+        Some(owner)
+    }
+
+    /// Takes the owner back of a ticket that the caller has issued and shown to nobody. `None` where another handle has announced
+    /// the ticket all the same, or has retired it: then the owner comes back by `reclaim`. It scans all hazards.
+    pub fn withdraw(&self, handle: &mut Handle, ticket: u64) -> Option<u64>
+        requires table { handle.old.book ≡ self.now }
+        ensures table { handle.new.book ≡ handle.old.book }
+        ensures withdrawn { IfSome result (λ o. Reclaims handle.old.view handle.new.view ticket o) }
+        ensures none { IfNone result (ReclaimsNone handle.old.view handle.new.view) }
+    {
+        handle.current = false;
+        self.withdraw_by(
+            ticket,
+            &mut handle.found,
             &mut handle.spare,
             &mut handle.seat,
         )

@@ -3,4 +3,4 @@ use Rattle.test_live_slots.proofs.payloads.pages.even_ones.Given as goal
 
 -- the guard is one of this map
 abbrev pub invariant-loop-pair : goal.invariant-loop-pair
-invariant-loop-pair g l = IsGuardOf l.map l.guard
+invariant-loop-pair l = IsGuardOf l.map l.guard

@@ -3,4 +3,4 @@ use Rattle.test_live_slots.proofs.payloads.pages.has.Given as goal
 
 -- the guard is one of this map
 abbrev pub invariant-loop-i : goal.invariant-loop-i
-invariant-loop-i g l = IsGuardOf l.map l.guard
+invariant-loop-i l = IsGuardOf l.map l.guard
