@@ -7,6 +7,7 @@
 //! - `lend` returns the owner of a ticket that isn't retired. The handle has it lent then, until its next `lend` or `end`.
 //! - `retire` is for who took the ticket out of the map. Nobody gets it lent from then on.
 //! - `reclaim` returns owners of retired tickets that no handle has lent, each owner once. So its object may be freed.
+//! - `withdraw` returns the owner of a ticket that was shown to nobody. Who couldn't store the ticket has the owner back so.
 //!
 //! A look-up writes the handle's own hazard, and no word that others write (`word_hazards`).
 //!

@@ -288,6 +288,7 @@ impl Owners {
         )
     }
 
+    // Retires a ticket, and takes its owner back where a scan finds the ticket at no hazard.
     fn withdraw_by(
         &self,
         ticket: u64,
