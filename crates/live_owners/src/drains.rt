@@ -50,9 +50,9 @@ impl LiveOwners {
         }
     }
 
-    /// For the last handle of a map: an owner that comes back, as by `reclaim`, or else that of the first key, which is removed.
-    /// The handle's loan ends. `None` where the map is empty and no owner is left that can come back. `Busy` where other handles
-    /// are in use after all: they came in between, or have the removed owner lent.
+    /// For the last handle of a map: an owner that comes back, as by `reclaim`. Where none does, the call removes the first key, and
+    /// returns an owner that comes back then. The handle's loan ends. `None` where the map is empty and no owner is left that can
+    /// come back. `Busy` where other handles are in use after all: they came in between, or have the removed owner lent.
     #[tactic(auto, using(crate::proofs::Steps::more_on))]
     pub fn drain(&self, handle: &mut OwnersHandle) -> Result<Option<(u64, u64)>, Busy>
         requires map { IsHandleOf self.now handle.old }

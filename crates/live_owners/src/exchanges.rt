@@ -10,9 +10,9 @@ use std::alloc::Global;
 
 impl LiveOwners {
     /// If the key still has this ticket, stores an owner in its place, and returns the ticket, whose owner is lent to the handle
-    /// then. Else `Ok(Err(..))` has the owner that was handed in, as `insert` returns a refused one. Which owner it is is decided by
-    /// its insertion, not by its number. `Refusal::Busy` if too many writers came in between, and `Refusal::OutOfMemory` if memory
-    /// was missing for a slot: then the owner is beside it, too.
+    /// then. Else `Ok(Err(..))` has the owner that was handed in, as `insert` returns a refused one. The ticket decides, and
+    /// not the owner's number. `Refusal::Busy` if too many writers came in between, and `Refusal::OutOfMemory` if memory was missing
+    /// for a slot: then the owner is beside it, too.
     #[tactic(auto, using(crate::proofs::Steps::more_on, crate::proofs::Steps::withdrawn_back))]
     pub fn compare_exchange(
         &self,

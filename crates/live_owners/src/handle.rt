@@ -15,7 +15,7 @@ pub struct Lent {
 }
 
 /// A ticket that left the map, which is retired. Its owner, which is lent to the handle. `None` where another thread had retired
-/// the ticket before, as no call of the map does.
+/// the ticket before.
 #[derive(Clone, Copy, Debug, PartialEq, Eq, Drop)]
 pub struct Previous {
     pub ticket: u64,

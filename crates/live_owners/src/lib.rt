@@ -3,14 +3,15 @@
 //! An owner is a number, such as the address of a counted object. The map reads no memory through it. Its values are *tickets*,
 //! numbers that are issued once, and the owners lie in a table under these tickets (`word_owners`).
 //!
-//! - `get` lends the owner of a key to the handle. The object is in memory until the loan ends, whoever removes the key meanwhile.
+//! - `get` lends the owner of a key to the handle. Until the loan ends the owner comes back to nobody, whoever removes the key.
 //! - `insert`, `remove` and `compare_exchange` retire the ticket that left the map, and lend its owner to the handle first. So a
 //!   caller sees what was there before.
 //! - `get_or_insert` lends what is there, or stores an owner.
 //! - `reclaim` returns an owner that left the map and that no handle has lent, each once: now it can be released. `drain` empties
 //!   the map, and returns one owner after another.
 //!
-//! No call waits. A call answers `Busy` where other threads came in between too often. A refused insertion gives its owner back.
+//! No call waits. A call answers `Busy` where other threads came in between too often. A refused insertion gives its owner back, at
+//! once or by a later `reclaim`.
 //!
 //! No clause states that a look-up finds the owner of a ticket that is in the map, that the owner before is lent, that a refused
 //! owner is given back, or that `reclaim` finds one that nobody has lent. Tests do.

@@ -105,8 +105,8 @@ impl LiveOwners {
 
     /// Stores an owner at the key. The ticket before, whose owner is lent to the handle then. `Refusal::Busy` if too many writers
     /// came in between, and `Refusal::OutOfMemory` if memory was missing for a slot or for a new key: then the owner is beside it,
-    /// and is the caller's again. `None` beside it where another handle has just looked at the slot, as no call of the map does.
-    /// Then the owner comes back by `reclaim`.
+    /// and is the caller's again. `None` beside it where another handle has just announced the slot's ticket. Then the owner
+    /// comes back by `reclaim`.
     #[tactic(auto, using(crate::proofs::Steps::more_on, crate::proofs::Steps::withdrawn_back))]
     pub fn insert(
         &self,

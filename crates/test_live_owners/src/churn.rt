@@ -1,5 +1,5 @@
-//! Four threads insert owners, exchange them, look them up, remove them and have them back, at 16 keys. In the end each owner has come back once,
-//! and none while it was lent.
+//! Four threads insert owners, exchange them, look them up, remove them and have them back, at 16 keys. In the end each owner has
+//! come back once, and none while it was lent.
 ghost use Rattle.std.specs.Prelude.{◌≡◌};
 ghost use Rattle.live_owners.specs.Owners.{IsHandleOf};
 
