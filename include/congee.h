@@ -3,7 +3,7 @@
  * A map has pairs of a key and a value, each key once, in the order of the keys. Each call reads one path of at most
  * eight nodes, unless its comment names another cost. A node that a removal empties is kept for later insertions. Once
  * three quarters of the held memory are free, a removal moves the nodes into less memory. For threads there are
- * congee_live.h and congee_shared.h, which this header includes.
+ * congee_live.h, congee_shared.h and congee_owners.h, which this header includes.
  *
  * What the library's own functions return, and what the map is afterwards, is proved of their code. They are the
  * exports (congee_exports.h), whose names begin with congee_c_. The functions for use are plain C around the exports,
@@ -53,7 +53,7 @@ extern "C" {
 #define CONGEE_VERSION_PATCH 0
 #define CONGEE_VERSION (CONGEE_VERSION_MAJOR * 10000 + CONGEE_VERSION_MINOR * 100 + CONGEE_VERSION_PATCH)
 
-/* The codes that calls of all three headers return. A function's comment names the codes that it may return. Calls that
+/* The codes that calls of all headers return. A function's comment names the codes that it may return. Calls that
  * insert return CONGEE_ABSENT for a new key, since the key was absent before the call. */
 
 /* The call is done. Calls return this code that make or clear something, or write a number to a place. */
@@ -68,6 +68,10 @@ extern "C" {
 #define CONGEE_OOM (-1)
 /* Other threads were in the way at each of the call's tries (congee_live.h, congee_shared.h). */
 #define CONGEE_BUSY (-2)
+/* The map has as many handles as it can have (congee_owners.h). */
+#define CONGEE_FULL (-3)
+/* The owner isn't stored, and the caller's reference is released by a later call (congee_owners.h). */
+#define CONGEE_KEPT (-4)
 
 /* A map. */
 struct congee;

@@ -1,10 +1,10 @@
-/* congee_exports.h: the functions that libcongee.a exports. Programs use the functions of congee.h, congee_shared.h and
- * congee_live.h, which are plain C around these. MIT license.
+/* congee_exports.h: the functions that libcongee.a exports. Programs use the functions of congee.h, congee_shared.h,
+ * congee_live.h and congee_owners.h, plain C around these. MIT license.
  *
  * What each exported function returns and leaves is proved of its code. The contracts are in crates/congee_c,
  * crates/congee_shared_c and crates/congee_live_c. A function takes a map, a reader or a handle by the place of its
- * address. A call that only reads takes a const place. A place for a value, a pair or a number isn't null and is
- * initialised, and so are the n pairs of a buffer. */
+ * address. A call that only reads takes a const place. A place for a value, a pair, a number or an owner isn't
+ * null and is initialised, and so are the n pairs of a buffer. */
 #ifndef CONGEE_EXPORTS_H
 #define CONGEE_EXPORTS_H
 
@@ -20,6 +20,7 @@ struct congee;
 struct congee_frozen;
 struct congee_shared;
 struct congee_live;
+struct congee_owners_guard;
 struct congee_pair;
 
 struct congee_handle {
@@ -52,6 +53,15 @@ struct congee_live_handle {
 
 struct congee_const_live_handle {
     const struct congee_live *guard;
+};
+
+struct congee_live_owners_handle {
+    struct congee_owners_guard *owners;
+};
+
+struct congee_lent {
+    uint64_t ticket;
+    uint64_t owner;
 };
 
 uint32_t congee_c_version(void);
@@ -166,6 +176,26 @@ int32_t congee_c_live_last(struct congee_const_live_handle *handle, struct conge
 int32_t congee_c_live_pop_first_to(struct congee_live_handle *handle, uint64_t key, struct congee_pair *pair);
 int32_t congee_c_live_pop_last_from(struct congee_live_handle *handle, uint64_t key, struct congee_pair *pair);
 int32_t congee_c_live_count(struct congee_const_live_handle *handle, uint64_t *out);
+
+/* Maps of owners. */
+int32_t congee_c_live_owners_new(uint64_t limit, struct congee_live_owners_handle *out);
+int32_t congee_c_live_owners_another(struct congee_live_owners_handle *handle, struct congee_live_owners_handle *out);
+uint64_t congee_c_live_owners_limit(struct congee_live_owners_handle *handle);
+void congee_c_live_owners_usage(struct congee_live_owners_handle *handle, uint64_t *charged, uint64_t *limit);
+void congee_c_live_owners_meet(struct congee_live_owners_handle *handle, struct congee_live_owners_handle *other);
+void congee_c_live_owners_free(struct congee_live_owners_handle handle);
+int32_t congee_c_live_owners_get(struct congee_live_owners_handle *handle, uint64_t key, struct congee_lent *lent);
+void congee_c_live_owners_end(struct congee_live_owners_handle *handle);
+int32_t congee_c_live_owners_insert(struct congee_live_owners_handle *handle, uint64_t key, uint64_t owner,
+                                    struct congee_lent *before);
+int32_t congee_c_live_owners_remove(struct congee_live_owners_handle *handle, uint64_t key, struct congee_lent *before);
+int32_t congee_c_live_owners_compare_exchange(struct congee_live_owners_handle *handle, uint64_t key, uint64_t ticket,
+                                              uint64_t owner, struct congee_lent *before);
+int32_t congee_c_live_owners_get_or_insert(struct congee_live_owners_handle *handle, uint64_t key, uint64_t owner,
+                                           struct congee_lent *found);
+int32_t congee_c_live_owners_reclaim(struct congee_live_owners_handle *handle, struct congee_lent *back);
+uint64_t congee_c_live_owners_pending(struct congee_live_owners_handle *handle);
+int32_t congee_c_live_owners_drain(struct congee_live_owners_handle *handle, struct congee_lent *back);
 
 #ifdef __cplusplus
 }

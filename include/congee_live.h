@@ -90,9 +90,9 @@ struct congee_live_note;
 /* Makes an empty map whose nodes take at most `bytes` bytes together, and the map's first handle. Returns CONGEE_DONE
  * with the handle in *out, or CONGEE_OOM with null there. UINT64_MAX is no limit.
  *
- * Nodes lie in segments. The first has 8,192 bytes, each further one twice as many up to 524,288. Each handle that
- * inserts owns a segment. A limit below 8,192 bytes makes no map, and below 24,576 nothing can be inserted. malloc
- * lends some kilobytes more than the segments.
+ * Nodes lie in segments. The first 32 have 4,096 bytes each, the next 32 twice as many, and so on up to 524,288. Each
+ * handle that inserts owns a segment, and the first handle has the rest of the first one. A limit below 4,096 bytes
+ * makes no map. malloc lends some 20 KB more than the segments.
  *
  * A call that needs a segment beyond the limit returns CONGEE_OOM, and changes no pair. A call that needs no new node
  * goes on as before. Nodes that removals took out are used again for nodes of their size. So a program at the limit
@@ -140,8 +140,8 @@ static inline void congee_live_usage(const struct congee_live *map, uint64_t *ch
 
 /* Makes one more handle of the map, for another thread. Returns CONGEE_DONE with the handle in *out, or CONGEE_OOM with
  * null there and nothing changed. The new handle begins with the history that `map` has seen. A handle takes a small
- * block, so a thread keeps one for many calls. A handle that has inserted owns free nodes of 512 KB at most, which a
- * later handle gets once the handle is freed. */
+ * block, so a thread keeps one for many calls. A handle that has inserted owns free nodes of one segment at most,
+ * which a later handle gets once the handle is freed. */
 static inline int congee_live_another(struct congee_live *map, struct congee_live **out) {
     struct congee_live_handle handle = {map}, made = {NULL};
     int code = congee_c_live_another(&handle, &made);

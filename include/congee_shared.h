@@ -1047,5 +1047,6 @@ static inline int congee_shared_snapshot_frozen(const struct congee_shared *map,
 #endif
 
 #include "congee_live.h"
+#include "congee_owners.h"
 
 #endif

@@ -25,8 +25,8 @@
 //! - [`Congee::stats`] is of a tree made anew from the keys, and reads all keys.
 //! - Closures are called while nothing is locked, and again if another thread changes the key meanwhile. Owners that a closure
 //!   returned in vain are dropped.
-//! - A thread takes a handle of a map at its first call. A thread that inserts owns up to 512 KB of free nodes. Another thread
-//!   gets the handle once the first thread has ended.
+//! - A thread takes a handle of a map at its first call. A thread that inserts owns 4 KB of free nodes, and in a large map up
+//!   to 512 KB. Another thread gets the handle once the first thread has ended.
 //! - A [`CongeeArc`] pins the epoch in each call. So the map needs no guard, and takes a guard for the signature alone.
 
 #![warn(missing_docs, missing_debug_implementations)]

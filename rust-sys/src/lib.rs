@@ -1,8 +1,8 @@
 //! Declarations of what `libcongee.a` exports, for a wrapper of one's own. `proved-congee` is a safe one.
 //!
-//! Made by `tools/dev/make-sys` of `congee_exports.h`. The headers `congee.h`, `congee_shared.h` and `congee_live.h` describe
-//! each function by its name without `_c`, and state what a caller owes. Of a crate above, its build script finds them by
-//! `DEP_CONGEE_INCLUDE`.
+//! Made by `tools/dev/make-sys` of `congee_exports.h`. The headers `congee.h`, `congee_shared.h`, `congee_live.h` and
+//! `congee_owners.h` describe each function by its name without `_c`, and state what a caller owes. Of a crate above, its build
+//! script finds them by `DEP_CONGEE_INCLUDE`.
 //!
 //! A place for a value, a pair or a number isn't null and is initialised, and so are the `n` pairs of a buffer. No two calls are
 //! made by one handle at a time, calls that read included. The declarations fit an archive of one version alone.
@@ -32,11 +32,30 @@ impl From<Pair> for (u64, u64) {
     }
 }
 
+/// A ticket, under which a map of owners has an owner, and that owner.
+#[repr(C)]
+#[derive(Clone, Copy, Debug, Default, PartialEq, Eq, PartialOrd, Ord, Hash)]
+pub struct Lent {
+    /// The ticket.
+    pub ticket: u64,
+    /// The owner, or 0 where the call that wrote this has none.
+    pub owner: u64,
+}
+
 /// What a call answers where there is no memory.
 pub const OOM: i32 = -1;
 
 /// What a call of a map that threads share answers where it would have to wait.
 pub const BUSY: i32 = -2;
+
+/// What a call answers where 64 handles of a map of owners are in use.
+pub const FULL: i32 = -3;
+
+/// What a call answers where there is no memory, and the owner that was handed in comes back by a later call.
+pub const OOM_KEPT: i32 = -4;
+
+/// What a call answers where it would have to wait, and the owner that was handed in comes back by a later call.
+pub const BUSY_KEPT: i32 = -5;
 
 /// What the address in a [`Handle`] points to. (The compiler shows its name to whoever shares one by `&`.)
 #[repr(C)]
@@ -130,6 +149,30 @@ impl LiveHandle {
     pub const fn none() -> LiveHandle {
         LiveHandle {
             guard: core::ptr::null_mut(),
+        }
+    }
+}
+
+/// What the address in a [`LiveOwnersHandle`] points to. (The compiler shows its name to whoever shares one by `&`.)
+#[repr(C)]
+#[derive(Debug)]
+pub struct OneOwnersHandleForEachThread {
+    _private: [u8; 0],
+}
+
+/// The address of a handle of a map of owners.
+#[repr(C)]
+#[derive(Debug)]
+pub struct LiveOwnersHandle {
+    /// The address, which the library has written.
+    pub owners: *mut OneOwnersHandleForEachThread,
+}
+
+impl LiveOwnersHandle {
+    /// A place for one, which the library may write to.
+    pub const fn none() -> LiveOwnersHandle {
+        LiveOwnersHandle {
+            owners: core::ptr::null_mut(),
         }
     }
 }
@@ -377,4 +420,50 @@ extern "C" {
     pub fn congee_c_live_pop_first_to(handle: *mut LiveHandle, key: u64, pair: *mut Pair) -> i32;
     pub fn congee_c_live_pop_last_from(handle: *mut LiveHandle, key: u64, pair: *mut Pair) -> i32;
     pub fn congee_c_live_count(handle: *mut LiveHandle, out: *mut u64) -> i32;
+    pub fn congee_c_live_owners_new(limit: u64, out: *mut LiveOwnersHandle) -> i32;
+    pub fn congee_c_live_owners_another(
+        handle: *mut LiveOwnersHandle,
+        out: *mut LiveOwnersHandle,
+    ) -> i32;
+    pub fn congee_c_live_owners_limit(handle: *mut LiveOwnersHandle) -> u64;
+    pub fn congee_c_live_owners_usage(
+        handle: *mut LiveOwnersHandle,
+        charged: *mut u64,
+        limit: *mut u64,
+    );
+    pub fn congee_c_live_owners_meet(handle: *mut LiveOwnersHandle, other: *mut LiveOwnersHandle);
+    pub fn congee_c_live_owners_free(handle: LiveOwnersHandle);
+    pub fn congee_c_live_owners_get(
+        handle: *mut LiveOwnersHandle,
+        key: u64,
+        lent: *mut Lent,
+    ) -> i32;
+    pub fn congee_c_live_owners_end(handle: *mut LiveOwnersHandle);
+    pub fn congee_c_live_owners_insert(
+        handle: *mut LiveOwnersHandle,
+        key: u64,
+        owner: u64,
+        before: *mut Lent,
+    ) -> i32;
+    pub fn congee_c_live_owners_remove(
+        handle: *mut LiveOwnersHandle,
+        key: u64,
+        before: *mut Lent,
+    ) -> i32;
+    pub fn congee_c_live_owners_compare_exchange(
+        handle: *mut LiveOwnersHandle,
+        key: u64,
+        ticket: u64,
+        owner: u64,
+        before: *mut Lent,
+    ) -> i32;
+    pub fn congee_c_live_owners_get_or_insert(
+        handle: *mut LiveOwnersHandle,
+        key: u64,
+        owner: u64,
+        found: *mut Lent,
+    ) -> i32;
+    pub fn congee_c_live_owners_reclaim(handle: *mut LiveOwnersHandle, back: *mut Lent) -> i32;
+    pub fn congee_c_live_owners_pending(handle: *mut LiveOwnersHandle) -> u64;
+    pub fn congee_c_live_owners_drain(handle: *mut LiveOwnersHandle, back: *mut Lent) -> i32;
 }

@@ -50,7 +50,8 @@
 //! # Threads
 //!
 //! Threads share a [`LiveMap`], each by a [`LiveGuard`] of its own, and look keys up without a lock. Or threads share a
-//! [`SharedMap`], each by a [`Guard`] of its own, under locks of the library.
+//! [`SharedMap`], each by a [`Guard`] of its own, under locks of the library. A [`LiveArcMap`] has objects as values, which
+//! look-ups lend.
 //!
 //! A [`Map`] can move to another thread. Threads can't share a map by `&`, since the library takes a map as its own during each
 //! call, reads included. So a `Map` isn't `Sync`, and a `RwLock` or an `Arc` alone doesn't help. Put the map into a `Mutex`, or
@@ -94,6 +95,7 @@
 //! is_shared::<proved_congee::LiveMap>();
 //! may_move::<proved_congee::Guard>();
 //! may_move::<proved_congee::LiveGuard>();
+//! is_shared::<proved_congee::LiveArcMap<String>>();
 //! ```
 
 #![warn(missing_docs, missing_debug_implementations)]
@@ -101,6 +103,7 @@
 mod frozen;
 pub mod keyed;
 mod live;
+mod live_owners;
 mod loops;
 mod map;
 mod owner;
@@ -113,6 +116,10 @@ use proved_congee_sys as sys;
 
 pub use frozen::{Frozen, Readers};
 pub use live::{LiveGuard, LiveMap, LiveNote};
+pub use live_owners::{
+    ExchangeError, LiveArcGuard, LiveArcMap, LiveBoxGuard, LiveBoxMap, LiveOwnerGuard,
+    LiveOwnerMap, Loan, PinError, Pointer, Refused, Ticket,
+};
 pub use map::{ExtendError, FreezeError, Map};
 pub use pages::{IntoIter, Keys, LiveRange, Range, Values};
 pub use shared::{Busy, Guard, Note, SharedMap, TryError};

@@ -55,7 +55,7 @@ pub struct LiveMap {
 }
 
 impl LiveMap {
-    /// Makes an empty map without a limit. The first segment takes 8,192 bytes. Returns [`OutOfMemory`] if there is no
+    /// Makes an empty map without a limit. The first segment takes 4,096 bytes. Returns [`OutOfMemory`] if there is no
     /// memory.
     ///
     /// ```
@@ -72,10 +72,10 @@ impl LiveMap {
     /// Makes an empty map whose nodes take at most so many bytes together. Returns [`OutOfMemory`] if there is no memory,
     /// or the limit is below the first segment.
     ///
-    /// Nodes lie in segments. The first has 8,192 bytes, each further one twice as many up to 524,288. Each guard that
-    /// inserts owns a segment, and a later guard gets what a dropped guard left of one. A call that needs a segment beyond
-    /// the limit is out of memory, and changes no pair. A call that needs no new node goes on as before. Nodes that
-    /// removals took out are used again for nodes of their size.
+    /// Nodes lie in segments. The first 32 have 4,096 bytes each, the next 32 twice as many, and so on up to 524,288. Each
+    /// guard that inserts owns a segment, and a later guard gets what a dropped guard left of one. A call that needs a
+    /// segment beyond the limit is out of memory, and changes no pair. A call that needs no new node goes on as before.
+    /// Nodes that removals took out are used again for nodes of their size.
     ///
     /// ```
     /// use proved_congee::{LiveMap, OutOfMemory};
@@ -91,7 +91,7 @@ impl LiveMap {
     /// assert_eq!(guard.insert(stored << 20, 1), Err(OutOfMemory));
     /// assert_eq!(guard.remove(7 << 20), Some(8));
     /// assert_eq!(guard.insert(7 << 20, 9), Ok(None));
-    /// assert!(LiveMap::with_limit(8_191).is_err());
+    /// assert!(LiveMap::with_limit(4_095).is_err());
     /// ```
     #[doc(alias("capacity", "with_capacity"))]
     pub fn with_limit(bytes: u64) -> Result<LiveMap, OutOfMemory> {
@@ -127,9 +127,9 @@ impl LiveMap {
     /// ```
     /// # fn main() -> Result<(), proved_congee::OutOfMemory> {
     /// let map = proved_congee::LiveMap::new()?;
-    /// assert_eq!(map.charged(), 8_192);
+    /// assert_eq!(map.charged(), 4_096);
     /// map.pin()?.insert(7, 70)?;
-    /// assert_eq!(map.charged(), 8_192 + 16_384);
+    /// assert_eq!(map.charged(), 2 * 4_096);
     /// # Ok(())
     /// # }
     /// ```
@@ -144,7 +144,7 @@ impl LiveMap {
     /// ```
     /// # fn main() -> Result<(), proved_congee::OutOfMemory> {
     /// let map = proved_congee::LiveMap::with_limit(10_000)?;
-    /// assert_eq!(map.usage(), (8_192, 10_000));
+    /// assert_eq!(map.usage(), (4_096, 10_000));
     /// # Ok(())
     /// # }
     /// ```
@@ -153,8 +153,8 @@ impl LiveMap {
     }
 
     /// Makes a guard, by which one thread at a time calls the map. A guard may go to another thread, and may outlive this
-    /// value. A guard takes a small block, so keep it for many calls. A guard that has inserted owns free nodes of 512 KB
-    /// at most, which a later guard gets once the guard is dropped. Waits while another thread makes one. Returns
+    /// value. A guard takes a small block, so keep it for many calls. A guard that has inserted owns free nodes of a
+    /// segment at most, which a later guard gets once the guard is dropped. Waits while another thread makes one. Returns
     /// [`OutOfMemory`] if there is no memory for a guard.
     ///
     /// ```
@@ -264,7 +264,7 @@ impl LiveGuard {
     ///
     /// ```
     /// # fn main() -> Result<(), proved_congee::OutOfMemory> {
-    /// assert_eq!(proved_congee::LiveMap::new()?.pin()?.charged(), 8_192);
+    /// assert_eq!(proved_congee::LiveMap::new()?.pin()?.charged(), 4_096);
     /// # Ok(())
     /// # }
     /// ```
@@ -280,7 +280,7 @@ impl LiveGuard {
     /// # fn main() -> Result<(), proved_congee::OutOfMemory> {
     /// let guard = proved_congee::LiveMap::with_limit(30_000)?.pin()?;
     /// guard.insert(7, 70)?;
-    /// assert_eq!(guard.usage(), (8_192 + 16_384, 30_000));
+    /// assert_eq!(guard.usage(), (2 * 4_096, 30_000));
     /// # Ok(())
     /// # }
     /// ```

@@ -122,7 +122,7 @@ static const struct form forms[] = {
     {"a map under one lock", .make = shared_make, SHARED_ENTRIES, .least = 2104},
     {"a map in shards", .make = sharded_make, SHARED_ENTRIES, .least = 64 * 2104},
     {"a live map", .make = live_make, ENTRIES(live), .try_compute = live_try_compute, .snapshot = live_snapshot,
-     .snapshot_frozen = live_snapshot_frozen, .least = 8192},
+     .snapshot_frozen = live_snapshot_frozen, .least = 4096},
 };
 enum { FORMS = sizeof forms / sizeof *forms };
 static const struct form *form;

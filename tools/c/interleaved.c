@@ -67,7 +67,7 @@ static void draw_calls(struct caller *caller, uint64_t *random) {
 
 /* Bytes for a live map: no limit, or few segments. */
 static uint64_t draw_limit(const struct map_kind *kind, uint64_t *random) {
-    static const uint64_t few[] = {24576, 57344, 122880};
+    static const uint64_t few[] = {8192, 20480, 49152};
     uint64_t number = next_random(random) % 6;
     return kind == &live_map && number < 3 ? few[number] : UINT64_MAX;
 }

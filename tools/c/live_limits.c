@@ -2,7 +2,8 @@
  *   - there is no map below the first segment, and no more is charged than the limit, by one thread and by four at once
  *   - malloc lends no more than that and a little
  *   - a refused call changes no pair. What needs no new node goes on: look-ups, other values, removals, and then new keys
- *   - a window of keys that moves on stays within its limit for ever */
+ *   - a window of keys that moves on stays within its limit for ever
+ *   - 64 handles with a key each, far from one another, take 384 KB, and 512 keys that follow one another by eight handles 16 KB */
 #include "congee.h"
 #include <malloc.h>
 #include <pthread.h>
@@ -10,7 +11,7 @@
 #include <stdio.h>
 #include <stdlib.h>
 
-enum { THREADS = 4, MOST = 1000000, SLACK = 32 << 10, WINDOW = 1000, STEPS = 300000 };
+enum { THREADS = 4, HANDLES = 64, MOST = 1000000, SLACK = 32 << 10, WINDOW = 1000, STEPS = 300000 };
 
 static void need(bool holds, const char *what) {
     if (!holds) {
@@ -84,7 +85,7 @@ static void fit(uint64_t limit, uint64_t segments) {
     uint64_t end = fill(map, 0);
     need(congee_live_charged(map) == segments, "the segments that fit");
     need(lent() - before <= limit + SLACK, "what malloc lends");
-    need((segments > 8192) == (end > 0), "pairs where there is a second segment");
+    need(end > 0, "pairs");
     use(map, 0, end);
     need(congee_live_another(map, &other) == 0, "another handle");
     congee_live_free(map);
@@ -149,24 +150,46 @@ static void move(uint64_t limit) {
     congee_live_free(map);
 }
 
+static uint64_t dense(uint64_t i) {
+    return i;
+}
+
+/* By many handles in turn: so many keys, and the bytes of the segments. */
+static void share(int handles, uint64_t (*key)(uint64_t), uint64_t keys, uint64_t segments) {
+    struct congee_live *all[HANDLES];
+    size_t before = lent();
+    need(congee_live_new(&all[0]) == 0, "a map");
+    for (int i = 1; i < handles; i++)
+        need(congee_live_another(all[0], &all[i]) == 0, "one of many handles");
+    for (uint64_t i = 0; i < keys; i++)
+        need(congee_live_insert(all[i % handles], key(i), i, NULL) == 0, "a key of one of many handles");
+    need(congee_live_charged(all[0]) == segments, "few bytes by many handles");
+    need(lent() - before <= segments + 2 * SLACK, "what malloc lends by many handles");
+    for (int i = 0; i < handles; i++)
+        congee_live_free(all[i]);
+}
+
 int main(void) {
     struct congee_live *map;
-    need(congee_live_new_with_limit(&map, 8191) == CONGEE_OOM && map == NULL, "a limit below the first segment");
+    need(congee_live_new_with_limit(&map, 4095) == CONGEE_OOM && map == NULL, "a limit below the first segment");
     need(congee_live_new_with_limit(&map, 0) == CONGEE_OOM && map == NULL, "no bytes");
     need(congee_live_new(&map) == 0 && congee_live_limit(map) == UINT64_MAX, "a map without a limit");
     uint64_t charged = 0, limit = 0;
     congee_live_usage(map, &charged, &limit);
-    need(congee_live_charged(map) == 8192 && charged == 8192 && limit == UINT64_MAX, "its first segment");
+    need(congee_live_charged(map) == 4096 && charged == 4096 && limit == UINT64_MAX, "its first segment");
     congee_live_free(map);
+    fit(4096, 4096);
+    fit(8191, 4096);
     fit(8192, 8192);
-    fit(24575, 8192);
-    fit(24576, 24576);
-    fit(1000000, 516096);
-    fit(1040384, 1040384);
+    fit(1000000, 983040);
+    fit(1048576, 1048576);
     for (int round = 0; round < 20; round++)
-        fill_by_four(1040383, 516096);
-    fill_by_four(4000000, 3661824);
+        fill_by_four(1048575, 1015808);
+    fill_by_four(4000000, 3997696);
     move(253952);
+    share(1, dense, 20, 4096);
+    share(HANDLES, key_of, HANDLES, 384 << 10);
+    share(8, dense, 512, 16 << 10);
     printf("no more than the limit is charged, by one thread and by four\n");
     return 0;
 }

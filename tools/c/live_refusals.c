@@ -5,7 +5,7 @@
 #include <stdio.h>
 #include <stdlib.h>
 
-enum { KEYS = 12000 };
+enum { KEYS = 1000 };
 
 static long left = -1; /* how many allocations succeed before one fails, or none for -1 */
 static bool all_after; /* whether those after it fail, too */

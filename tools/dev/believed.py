@@ -11,7 +11,11 @@ THEOREMS = {
     "linearizable": ("spec_olc.specs.Linearizable.IsLinearizable",),
     "guards": ("calls of share_faces",),
     "live": ("calls of live_faces", "calls of live_payloads", "exports of congee_live_c", "congee_live_c.specs.Holding.Holding"),
+    "owners": ("calls of live_owners", "exports of congee_live_c/owners"),
 }
+
+# Modules of a crate that another theorem than the crate's is about.
+APART = ("congee_live_c/owners",)
 
 WORD = re.compile(r"[^\s(){};,\[\]λ]+")
 HEAD = re.compile(r"( *)(?:(?:abbrev|unfoldable|irreducible|pub|macro) )+(?:(record|data) )?(?:abbrev )?([^\s:({]+)")
@@ -146,8 +150,13 @@ class Reader:
                     self.follow(inner, it)
 
     def contracts(self, crate, pattern):
-        """What the contracts of functions that begin so speak of, and the views of types."""
-        for path in files(f"crates/{crate}/src", ".rt"):
+        """What the contracts of functions that begin so speak of, and the views of types, in a crate or in a module of one."""
+        name, _, module = crate.partition("/")
+        for path in files(f"crates/{name}/src", ".rt"):
+            if not path.startswith(f"crates/{name}/src/{module}"):
+                continue
+            if not module and any(path.startswith(f"crates/{name}/src/{it.partition('/')[2]}") for it in APART if it.startswith(f"{name}/")):
+                continue
             text = text_of(path)
             uses = imports(text.splitlines(), "ghost use")
             for it in re.finditer(rf"^( *){pattern} .*?\n\1\{{|^ +ghost (?:Value|view) = .*?$", text, re.M | re.S):

@@ -139,6 +139,19 @@ def rust_faults():
             yield f"{where} may lack memory, and its type hasn't that"
 
 
+def owner_calls(page, head):
+    """The calls of a map of objects by the table of a page."""
+    for row in cells_of(page, head)[1:]:
+        for name in called(row[0]):
+            yield from [name, f"try_{name}"] if row[1] == "try" else [name]
+
+
+def owner_methods():
+    """The public functions of a guard of objects."""
+    blocks = re.findall(r"(?ms)^impl<[^\n]*> LiveOwnerGuard<[^\n]*\{$(.*?)^\}$", text_of("rust/src/live_owners.rs"))
+    return {name for it in blocks for name in re.findall(r"(?m)^    pub fn (\w+)", it)}
+
+
 def faults(defined):
     """What the pages list otherwise than the sources. `defined` decides whether a crate has a name."""
     for page, forms in FORMS.items():
@@ -154,6 +167,10 @@ def faults(defined):
             yield f"docs/RUST.md, {kind}", differences("docs/RUST.md", here, methods(file, name))
     yield "rust/src, calls with try_ and errors", [*rust_faults()]
     yield "docs/LIVE.md, calls of congee_live.h", differences("docs/LIVE.md", live_calls(), calls_of_header("congee_live", "congee_live_"))
+    here = {*owner_calls("docs/C.md", "| Call of a map of objects |")}
+    yield "docs/C.md, maps of objects", differences("docs/C.md", here, calls_of_header("congee_owners", "congee_live_owners_"))
+    here = {*owner_calls("docs/RUST.md", "| Call of a guard of objects |")}
+    yield "docs/RUST.md, maps of objects", differences("docs/RUST.md", here, owner_methods())
     yield "docs/C.md, arguments", [f"{it} is {there} in the header" for it, there in arguments() if it != there]
     codes = set(re.findall(r"(?m)^#define (CONGEE_\w+) \(?(-?\d+)\)?$", text_of("include/congee.h")))
     codes = {it for it in codes if "VERSION" not in it[0]}

@@ -38,7 +38,7 @@ def sizes():
 
 def segments():
     """The bytes of a live map's first segment and of the largest."""
-    return [8 * it for it in the("crates/word_segments/src/place.rt", r"if number < 6 \{ (\d+) << number \} else \{ (\d+) \}")]
+    return [8 * it for it in the("crates/word_segments/src/place.rt", r"(\d+) << \(number / 32\)\s*\} else \{\s*(\d+)")]
 
 
 def few():
@@ -115,15 +115,15 @@ def crates_of(*names):
 FACTS = (
     ("sizes of nodes", sizes, r"(\d+), (\d+), (\d+) (?:or|and) ([\d,]+) bytes", ("docs/C.md", "docs/RUST.md", "docs/RATTLE.md", "include/congee.h", "include/congee_shared.h")),
     ("the first node", lambda: sizes()[3:], r"(?:limit|budget) below ([\d,]+) bytes(?:,| no map| fails)", ("docs/C.md", "docs/RUST.md", "docs/RATTLE.md")),
-    ("sizes of segments", segments, r"first has ([\d,]+) bytes, each further one twice as many up to ([\d,]+)", ("include/congee_live.h", "rust/src/live.rs")),
-    ("sizes of segments in KB", lambda: [it / 1024 for it in segments()], r"segments of (\d+) KB, and larger segments up to (\d+) KB", ("docs/LIVE.md",)),
-    ("the largest segment", lambda: [segments()[1] / 1024], r"segment of up to (\d+) KB", ("docs/C.md", "docs/RUST.md", "rust-drop-in/README.md")),
+    ("sizes of segments", segments, r"first 32 have ([\d,]+) bytes each, the next 32 twice as many, and so on up to ([\d,]+)", ("include/congee_live.h", "rust/src/live.rs")),
+    ("sizes of segments in KB", lambda: [it / 1024 for it in segments()], r"first 32 have (\d+) KB each, the next 32 twice as many, and so on up to (\d+) KB", ("docs/LIVE.md",)),
+    ("a handle's segment", lambda: [it / 1024 for it in segments()], r"a segment\s+of (\d+) KB, and in a large map of up to (\d+) KB", ("docs/C.md", "docs/RUST.md", "rust-drop-in/README.md")),
     ("when a node shrinks", few, r"at most (\d+), (\d+) or (\d+) (?:children|entries)", ("docs/LIVE.md", "docs/DIFFERENCES.md", "docs/TEXTS.md")),
     ("when a node shrinks, for C", few, r"at most (\d+) in a node for 16, (\d+) in a node for 48, and (\d+) in a node for 256", ("docs/C.md",)),
     ("the worst ratio of lent to charged", lambda: the("docs/C.md", r"worst ratio that was measured is (\d+\.\d+)"), r"lends(?: is more)?\W+up to (\d+\.\d+) times", ("docs/RUST.md", "docs/RATTLE.md")),
     ("what a small map holds", lambda: the("docs/C.md", r"A small map holds ([\d.]+) KB"), r"[Aa] small map holds ([\d.]+) KB", ("docs/RATTLE.md",)),
     ("a window in a live map", window, r"held ([\d.]+) MB at first and ([\d.]+) MB at the end", ("docs/LIVE.md",)),
-    ("what an insertion takes", lambda: [3 * segments()[0]], r"(?:With|below) ([\d,]+)(?: bytes a caller can insert| nothing can be inserted)", ("docs/LIVE.md", "include/congee_live.h")),
+    ("what an insertion takes", lambda: segments()[:1], r"With ([\d,]+) bytes the first handle can insert", ("docs/LIVE.md",)),
     ("charged and lent, random keys", lambda: [charged()[1], lent()[1]], r"random keys,? ([\d.]+)(?: bytes a key)? are charged,? and ([\d.]+) lent", ("include/congee.h",)),
     ("the time of a first proof", first_proof, r"in (\d+) minutes on four threads", ("README.md",)),
     ("the time of the archive", archive, r"(\d+) processor minutes after `?\./congee run`?, else (?:in )?some (\d+)", ("docs/C.md", "docs/RUST.md", "tools/install", "tools/package")),

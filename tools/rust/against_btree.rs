@@ -145,10 +145,12 @@ fn refused() {
     let mut map = Map::with_limit(2104 + 64).unwrap();
     let shared = SharedMap::with_limit(2104 + 64).unwrap().pin().unwrap();
     let live = LiveMap::with_limit(8192).unwrap().pin().unwrap();
+    let spread = |i: u64| (i << 40, i);
     assert_eq!(stopped(map.extend(pairs)), Err((1, (u64::MAX, 20))));
     assert_eq!(stopped(shared.extend(pairs)), Err((1, (u64::MAX, 20))));
-    assert_eq!(stopped(live.extend(pairs)), Err((0, (1, 10))));
-    assert!(map.iter().eq([(1, 10)]) && shared.iter().eq(&map) && live.is_empty());
+    let (stored, pair) = stopped(live.extend((0..1000).map(spread))).unwrap_err();
+    assert!((1..1000).contains(&stored) && pair == spread(stored as u64));
+    assert!(map.iter().eq([(1, 10)]) && shared.iter().eq(&map) && live.iter().eq((0..stored as u64).map(spread)));
 }
 
 fn main() {

@@ -338,7 +338,7 @@ int32_t congee_c_shared_new_sharded(uint64_t limit, congee_shared_handle *out) {
     return limit / 64 < 2104 ? CONGEE_OOM : congee_c_shared_new(limit, out);
 }
 int32_t congee_c_live_new(uint64_t limit, congee_live_handle *out) {
-    if (limit < 8192)
+    if (limit < 4096)
         return CONGEE_OOM;
     out->guard = new congee_live(std::make_shared<Store>(limit));
     return 0;
@@ -394,9 +394,9 @@ int32_t congee_c_shared_usage(congee_const_shared_handle *h, uint64_t *bytes, ui
     SHARED(h, (*bytes = charged(p), *limit = in.held.of->limit, 0))
 }
 uint64_t congee_c_live_limit(congee_const_live_handle *h) { PLAIN(h, guard, in.held.of->limit) }
-uint64_t congee_c_live_charged(congee_const_live_handle *h) { PLAIN(h, guard, 8192) }
+uint64_t congee_c_live_charged(congee_const_live_handle *h) { PLAIN(h, guard, 4096) }
 void congee_c_live_usage(congee_const_live_handle *h, uint64_t *charged, uint64_t *limit) {
-    PLAIN(h, guard, (void)(*charged = 8192, *limit = in.held.of->limit))
+    PLAIN(h, guard, (void)(*charged = 4096, *limit = in.held.of->limit))
 }
 // (who shares a map here sees all that is in it at once, so a meeting and a note have nothing to hand on)
 void congee_c_shared_meet(congee_shared_handle *h, congee_shared_handle *other) {
@@ -410,3 +410,5 @@ void congee_c_live_meet(congee_live_handle *h, congee_live_handle *other) {
 int32_t congee_c_live_note(congee_live_handle *h, congee_live_handle *out) { return congee_c_live_another(h, out); }
 
 } // extern "C"
+
+#include "standin_owners.hpp"

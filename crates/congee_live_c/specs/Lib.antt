@@ -1,4 +1,5 @@
 pub mod Answer
 pub mod Holding
+pub mod Owners
 pub mod Pairs
 pub mod inner

@@ -2,13 +2,14 @@
 //!
 //! Tested in `tools/c-library`.
 
-ghost use Rattle.std.specs.Prelude.{◌≡◌, IfOk};
+ghost use Rattle.std.specs.Prelude.{◌≡◌};
+ghost use Rattle.congee_live_c.specs.contracts.held.Held.{the_row as held_row};
 ghost use Rattle.congee_live_c.specs.inner.Owned.{held_coded, handle_owns};
 ghost use Rattle.congee_live_c.specs.Holding.{Holding};
 
 use crate::held::Held;
 use crate::parts::Parts;
-use std::alloc::{AllocError, Global};
+use std::alloc::Global;
 use std::marker::Model;
 
 /// What C holds: the address of a guard and its share on the heap, which the handle owns. One word; `Global` takes no bytes.
@@ -16,51 +17,20 @@ use std::marker::Model;
 pub struct Handle {
     pub ptr: *mut u8,
     pub(crate) alloc: Global,
-    pub ghost held: { Holding } by { held_coded },
+    pub ghost held: { Holding } by { held_coded held_row },
 }
 
 impl Model for Handle {
-    ghost also_owns = { λ h. handle_owns h.alloc h.ptr h.held };
+    ghost also_owns = { λ h. handle_owns held_row h.alloc h.ptr h.held };
 }
 
 impl Handle {
-    ghost use Rattle.std.specs.Prelude.{◌≡◌, IfOk};
+    ghost use Rattle.std.specs.Prelude.{◌≡◌};
     ghost use types.Logic.{sem};
     ghost use denote.Follow.{follows};
     ghost use Rattle.congee_live_c.specs.contracts.handle.Handle.{the_row};
     ghost use Rattle.congee_live_c.specs.contracts.held.Held.{the_row as held_row};
     ghost use Rattle.congee_live_c.specs.inner.After.{with_held};
-
-    /// Puts the guard and its share on the heap, or returns `AllocError` where there is no memory for that: they are dropped then.
-    pub fn new(alloc: Global, held: Held) -> Result<Handle, AllocError>
-        ensures { IfOk result (λ handle. handle.held ≡ held) }
-    {
-        Ok(Handle::of_box(Box::new(alloc, held)?))
-    }
-
-    /// The handle of what is on the heap.
-    pub fn of_box(held: Box<Held>) -> Handle
-        ensures { result.held ≡ held.value }
-    {
-        Handle::of_parts(Parts::of(held))
-    }
-
-    /// What the handle holds, still on the heap.
-    pub fn into_box(self) -> Box<Held>
-        ensures { result.value ≡ self.held }
-    {
-        self.into_parts().into_box()
-    }
-
-    fn of_parts(parts: Parts<Held, Global>) -> Handle
-        ensures { result.held ≡ parts.value }
-    {
-        let Parts { ptr, alloc } = parts;
-        Handle {
-            ptr: ptr as *mut u8,
-            alloc,
-        }
-    }
 
     fn into_parts(self) -> Parts<Held, Global>
         ensures { result.value ≡ self.held }
@@ -84,7 +54,7 @@ impl Handle {
 
     /// Drops what the handle holds, and frees its block.
     pub fn free(self) {
-        drop(self.into_box());
+        drop(self.into_parts().into_box());
     }
 }
 

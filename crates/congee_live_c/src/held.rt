@@ -31,7 +31,7 @@ impl Model for Held {
 
 impl Held {
     /// The first guard of a new, empty map, which has seen nothing. The map's segments may take so many bytes together.
-    /// `AllocError` if there is no memory for the map, or the limit is below 8,192 bytes.
+    /// `AllocError` if there is no memory for the map, or the limit is below 4,096 bytes.
     pub fn first(alloc: Global, limit: u64) -> Result<Held, AllocError>
         ensures unseen { IfOk result (λ first. first.guard.seen ≡ []) }
         ensures limit { IfOk result (λ first. first.guard.book.limit ≡ limit) }

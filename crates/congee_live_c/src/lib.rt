@@ -7,7 +7,7 @@
 //! An answer is an `i32`: 0, 1 or 2 with the meaning that each call documents, `OOM` or `BUSY`.
 //!
 //! Here are the calls that make a map and its handles, its limit, and those that get, set and remove one key. `computed`,
-//! `counts`, `meetings`, `next_pair`, `pair_before`, `pops` and `ranges` have the others.
+//! `counts`, `meetings`, `next_pair`, `pair_before`, `pops` and `ranges` have the others, and `owners` those of a map of owners.
 //!
 //! Tested in `tools/c-library`.
 #![tactic(auto)]
@@ -26,6 +26,7 @@ mod handle;
 mod held;
 mod meetings;
 mod next_pair;
+mod owners;
 mod pair_before;
 mod parts;
 mod pops;
@@ -44,6 +45,15 @@ const OOM: i32 = -1;
 
 /// A writer came in between at each try.
 const BUSY: i32 = -2;
+
+/// 64 handles of a map of owners are in use.
+const FULL: i32 = -3;
+
+/// There was no memory, and the owner that was handed in comes back by a later call.
+const OOM_KEPT: i32 = -4;
+
+/// A writer came in between at each try, and the owner that was handed in comes back by a later call.
+const BUSY_KEPT: i32 = -5;
 
 /// A key and its value: 16 bytes.
 #[repr(C)]
@@ -77,10 +87,10 @@ pub extern "C" fn congee_c_live_new(alloc: Global, limit: u64, out: &mut Room) -
     let Ok(held) = Held::first(alloc, limit) else {
         return OOM;
     };
-    let Ok(handle) = Handle::new(alloc, held) else {
+    let Ok(held) = Box::new(alloc, held) else {
         return OOM;
     };
-    *out = Room::of(handle);
+    *out = Room::of(held);
     0
 }
 
@@ -136,10 +146,10 @@ pub extern "C" fn congee_c_live_another(alloc: Global, handle: &mut Handle, out:
     let Ok(held) = handle.as_mut().beside(false) else {
         return OOM;
     };
-    let Ok(mut other) = Handle::new(alloc, held) else {
+    let Ok(mut other) = Box::new(alloc, held) else {
         return OOM;
     };
-    handle.as_mut().guard.meet(&mut other.as_mut().guard);
+    handle.as_mut().guard.meet(&mut other.guard);
     *out = Room::of(other);
     0
 }

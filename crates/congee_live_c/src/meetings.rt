@@ -44,10 +44,10 @@ pub extern "C" fn congee_c_live_note(alloc: Global, handle: &mut Handle, out: &m
     let Ok(held) = handle.as_mut().beside(true) else {
         return OOM;
     };
-    let Ok(mut note) = Handle::new(alloc, held) else {
+    let Ok(mut note) = Box::new(alloc, held) else {
         return OOM;
     };
-    handle.as_mut().guard.meet(&mut note.as_mut().guard);
+    handle.as_mut().guard.meet(&mut note.guard);
     *out = Room::of(note);
     0
 }

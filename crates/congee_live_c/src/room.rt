@@ -4,9 +4,11 @@
 
 ghost use Rattle.std.specs.Prelude.{◌≡◌, Option, Some};
 ghost use Rattle.congee_live_c.specs.Holding.{Holding};
+ghost use Rattle.congee_live_c.specs.contracts.held.Held.{the_row as held_row};
 ghost use Rattle.congee_live_c.specs.inner.Owned.{room_owns, room_coded};
 
-use crate::handle::Handle;
+use crate::held::Held;
+use crate::parts::Parts;
 use std::alloc::Global;
 use std::marker::Model;
 
@@ -16,19 +18,28 @@ use std::marker::Model;
 pub struct Room {
     ptr: *mut u8,
     alloc: Global,
-    pub ghost held: { Option Holding } by { room_coded },
+    pub ghost held: { Option Holding } by { room_coded held_row },
 }
 
 impl Model for Room {
-    ghost also_owns = { λ r. room_owns r.alloc r.ptr r.held };
+    ghost also_owns = { λ r. room_owns held_row r.alloc r.ptr r.held };
 }
 
 impl Room {
-    /// A place with this handle.
-    pub(crate) fn of(handle: Handle) -> Room
-        ensures { result.held ≡ Some handle.held }
+    /// A place with a handle of this.
+    pub(crate) fn of(held: Box<Held>) -> Room
+        ensures { result.held ≡ Some held.value }
     {
-        let Handle { ptr, alloc } = handle;
-        Room { ptr, alloc }
+        Room::of_parts(Parts::of(held))
+    }
+
+    fn of_parts(parts: Parts<Held, Global>) -> Room
+        ensures { result.held ≡ Some parts.value }
+    {
+        let Parts { ptr, alloc } = parts;
+        Room {
+            ptr: ptr as *mut u8,
+            alloc,
+        }
     }
 }

@@ -72,8 +72,8 @@ impl<K: Word, V: Word> Congee<K, V> {
         Congee::with_limit(alloc, u64::MAX)
     }
 
-    /// An empty map, whose nodes lie in segments that may take so many bytes together. The first has 8,192 bytes, each
-    /// further one twice as many up to 524,288. `OOMError` if memory is missing, or the limit is below the first.
+    /// An empty map, whose nodes lie in segments that may take so many bytes together. The first 32 have 4,096 bytes each, the
+    /// next 32 twice as many, and so on up to 524,288. `OOMError` if memory is missing, or the limit is below the first.
     ///
     /// A call that needs one more than the limit is for is out of memory. Nodes that were taken out are used again, and are not
     /// cut: a map that was emptied of dense keys may refuse most keys that lie far from one another, and a new map takes them.

@@ -1,5 +1,5 @@
 -- A seat stays ready for the next call.
-use Rattle.std.proofs.Common.{◌≡◌, ℕ, nat_eq, List, [], ◌∷◌, ◌++◌, refl, sym, ap, ◌∙◌, subst, inl, arith, Option, Some, None, IfSome}
+use Rattle.std.proofs.Common.{◌≡◌, ℕ, nat_eq, List, [], ◌∷◌, ◌++◌, refl, sym, ap, ◌∙◌, subst, inl, arith, Bool, false, Option, Some, None, IfSome}
 use Rattle.share_rule.specs.History.{Entry, entries_of, IsLegalHistory}
 use Rattle.share_rule.proofs.Keeps.{entries-append}
 use Rattle.word_book.specs.Book.{Book}
@@ -57,8 +57,8 @@ leaves_grown v w name key height byte g l = record {
 }
 
 -- a new seat
-pub ready_new : (v : Seen) (s : FreeNodes) → v ≡ seat_view (view_of [] [] []) (place 0 1 1 ∷ []) [] [] no_room → ((u : Seen) → HasFreeNodes u s) → IsReady v (record { start = 0; left = 0; spare = s; cleanup_due = None })
-ready_new v s e has = subst (λ (u : Seen). IsReady u (record { start = 0; left = 0; spare = s; cleanup_due = None })) (sym e) record {
+pub ready_new : (v : Seen) (s : FreeNodes) → v ≡ seat_view (view_of [] [] []) (place 0 1 1 ∷ []) [] [] no_room → ((u : Seen) → HasFreeNodes u s) → IsReady v (record { start = 0; left = 0; spare = s; cleanup_due = None; is_last = false })
+ready_new v s e has = subst (λ (u : Seen). IsReady u (record { start = 0; left = 0; spare = s; cleanup_due = None; is_last = false })) (sym e) record {
   root_word = inl refl;
   own = refl;
   holds = refl;
@@ -95,6 +95,9 @@ ready_spare v m s r spare = record { root_word = r.root_word; own = r.own; holds
 -- and the path of a key is still to be tidied
 pub ready_cleanup_due : (v : Seen) (m : Room) (key : Option ℕ) → IsReady v m → IsReady v (record m { cleanup_due = key })
 ready_cleanup_due v m key r = record { root_word = r.root_word; own = r.own; holds = r.holds; words = r.words; spare = r.spare }
+
+pub ready_is_last : (v : Seen) (m : Room) (is : Bool) → IsReady v m → IsReady v (record m { is_last = is })
+ready_is_last v m is r = record { root_word = r.root_word; own = r.own; holds = r.holds; words = r.words; spare = r.spare }
 
 -- and another node is in use again
 pub ready_again : (v w : Seen) (m : Room) (s : FreeNodes) → IsReady v m → HasGrown v w → w.room ≡ v.room → ((u : Seen) → HasFreeNodes u m.spare → HasFreeNodes u s) → IsReady w (record m { spare = s })

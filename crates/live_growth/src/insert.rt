@@ -18,8 +18,8 @@ use live_reads::prefix_match::Mismatch;
 use std::alloc::{AllocError, Global};
 use std::marker::Brand;
 
-/// More room, where there is little, unless there is a node of each form to be used again. `false` where another thread is
-/// just making some.
+/// More room, where there is too little for a node of some form, unless there is a node of each form to be used again. What was left
+/// of the room is lost, so call that where a node is lacking. `false` where another thread is just making some room.
 pub fn reserve(
     nodes: &Nodes,
     alloc: Global,
@@ -89,7 +89,8 @@ pub fn enlarge(
     if position.height >= 8 {
         return false;
     }
-    if room.lacks(room.spare_above(form_below(position.name))) {
+    let form = form_below(position.name);
+    if room.lacks(room.spare_above(form), next_of(form)) {
         return true;
     }
     if replace(nodes, position, key, room, seat) {
@@ -138,7 +139,7 @@ pub fn extend(nodes: &Nodes, position: Position, key: u64, room: &mut Room, seat
         × IsReady seat.new.view room.new
         × (seat.new.view.client.seen ≡ seat.old.view.client.seen) }
 {
-    if room.lacks(room.spare_for_new()) {
+    if room.lacks(room.spare_for_new(), NEW) {
         return true;
     }
     match lead_on(nodes, position, key, room, seat) {
@@ -200,7 +201,7 @@ pub fn part(
         × IsReady seat.new.view room.new
         × (seat.new.view.client.seen ≡ seat.old.view.client.seen) }
 {
-    if room.lacks(room.spare_for_new()) {
+    if room.lacks(room.spare_for_new(), NEW) {
         return true;
     }
     let spare = spare_or_made(nodes, room.spare_for_new(), NEW, room, seat);
@@ -223,7 +224,7 @@ pub fn part(
 
 /// Inserts a value, or comes nearer to it by a node: `Busy`. So it is too where a writer came in between. `OutOfMemory` where
 /// a node is lacking.
-pub(crate) fn insert_once(
+fn insert_once(
     nodes: &Nodes,
     key: u64,
     value: u64,
@@ -246,4 +247,41 @@ pub(crate) fn insert_once(
         return Err(refusal_of(extend(nodes, position, key, room, seat)));
     }
     insert_at(nodes, position, key, value, room, seat)
+}
+
+/// More room where a node is lacking. Without memory for that, larger nodes serve from then on. `false` where they do already.
+pub fn make_room(nodes: &Nodes, alloc: Global, room: &mut Room, seat: &mut Seat) -> bool
+    requires book { seat.old.book ≡ nodes.now }
+    requires ready { IsReady seat.old.view room.old }
+    ensures told { (seat.new.book ≡ seat.old.book) × (seat.new.id ≡ seat.old.id)
+        × IsReady seat.new.view room.new
+        × (seat.new.view.client.seen ≡ seat.old.view.client.seen) }
+{
+    let is_last = reserve(nodes, alloc, room, seat).is_err();
+    let was_last = room.is_last;
+    room.is_last = is_last;
+    !(is_last & was_last)
+}
+
+/// Inserts a value, as by `insert_once`. Where a node is lacking, there is more room instead: `Busy`. `OutOfMemory` where there is no
+/// memory for that, nor a larger node.
+pub(crate) fn try_insert(
+    nodes: &Nodes,
+    alloc: Global,
+    key: u64,
+    value: u64,
+    room: &mut Room,
+    seat: &mut Seat,
+) -> Result<Option<u64>, Refusal>
+    requires book { seat.old.book ≡ nodes.now }
+    requires ready { IsReady seat.old.view room.old }
+    ensures told { (seat.new.book ≡ seat.old.book) × (seat.new.id ≡ seat.old.id)
+        × IsReady seat.new.view room.new
+        × Inserts (ask seat.old.id key value 1) result seat.old.view seat.new.view }
+{
+    let tried = insert_once(nodes, key, value, room, seat);
+    if tried == Err(Refusal::OutOfMemory) && make_room(nodes, alloc, room, seat) {
+        return Err(Refusal::Busy);
+    }
+    tried
 }

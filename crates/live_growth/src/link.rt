@@ -29,24 +29,26 @@ use std::marker::Brand;
 pub const NEW: NodeType = NodeType::N4;
 
 /// A seat's room: the first of its words, how many there are at least, and nodes that it may use again. With it a key is kept
-/// whose path may lead to a node without children, since a writer came in between.
+/// whose path may lead to a node without children, since a writer came in between. `is_last` where there was no memory for more room
+/// when one was asked for: a larger node serves then for one that is lacking.
 #[derive(Clone, Copy, Debug, PartialEq, Eq)]
 pub struct Room {
     pub start: u64,
     pub left: u64,
     pub spare: FreeNodes,
     pub cleanup_due: Option<u64>,
+    pub is_last: bool,
 }
 
 impl Room {
     /// The name of the node that is the next new one: of the smallest form, or of a larger one where there is neither such a
-    /// one nor room. 0 for none.
+    /// one nor room, nor memory for more. 0 for none.
     pub fn spare_for_new(&self) -> u64
         ensures { (v : SeatView View) → HasFreeNodes v self.now.spare → 1 ≤ result
             → Sights v result }
     {
         let spare = self.spare.smallest();
-        if !self.lacks(spare) {
+        if !self.is_last || !self.lacks(spare, NEW) {
             return spare;
         }
         let larger = self.spare.larger(NEW);
@@ -57,21 +59,21 @@ impl Room {
     }
 
     /// The name of the node that takes the place of a full one of this form: of the next form, or of a larger one where there is
-    /// neither such a one nor room. 0 for none.
+    /// neither such a one nor room, nor memory for more. 0 for none.
     pub fn spare_above(&self, form: NodeType) -> u64
         ensures { (v : SeatView View) → HasFreeNodes v self.now.spare → 1 ≤ result
             → Sights v result }
     {
         let spare = self.spare.get(next_of(form));
-        if self.lacks(spare) {
+        if self.is_last && self.lacks(spare, next_of(form)) {
             return self.spare.larger(form);
         }
         spare
     }
 
-    /// Whether there is neither this node to be used again nor room for a new one of any form.
-    pub fn lacks(&self, spare: u64) -> bool {
-        spare == 0 && self.left < 263
+    /// Whether there is neither this node to be used again nor room for a new one of this form.
+    pub fn lacks(&self, spare: u64, form: NodeType) -> bool {
+        spare == 0 && self.left <= words_in(form) as u64
     }
 }
 

@@ -6,7 +6,7 @@ ghost use Rattle.live_law.specs.Known.{MadeCall};
 ghost use Rattle.live_reads.specs.Meetings.{SeenMore};
 
 use crate::free_nodes::FreeNodes;
-use crate::insert::{insert_once, reserve};
+use crate::insert::{reserve, try_insert};
 use crate::link::Room;
 use crate::make_root::make_root;
 use live_nodes::heap::Heap;
@@ -90,10 +90,19 @@ impl Congee {
         Congee::with_limit(alloc, u64::MAX)
     }
 
-    /// An empty map, whose segments may take so many bytes together. `AllocError` also where the first one of 8,192 bytes
+    /// An empty map, whose segments may take so many bytes together. `AllocError` also where the first one of 4,096 bytes
     /// is more.
     pub fn with_limit(alloc: Global, limit: u64) -> Result<Congee, AllocError>
         ensures limit { IfOk result (λ map. map.limit ≡ limit) }
+    {
+        let (map, _) = Congee::with_guard(alloc, limit)?;
+        Ok(map)
+    }
+
+    /// An empty map, as by `with_limit`, with its first caller. That one has what is left of the first segment.
+    pub fn with_guard(alloc: Global, limit: u64) -> Result<(Congee, Guard), AllocError>
+        ensures limit { IfOk result (λ made. made.0.limit ≡ limit) }
+        ensures guard { IfOk result (λ made. (made.1.book ≡ made.0) × (made.1.seen ≡ [])) }
     {
         let nodes: Nodes = Heap::with_limit(alloc, 1, limit)?;
         let mut seat = nodes.enter();
@@ -102,12 +111,13 @@ impl Congee {
             left: 0,
             spare: FreeNodes::none(),
             cleanup_due: None,
+            is_last: false,
         };
         let _ = reserve(&nodes, alloc, &mut room, &mut seat)?;
         if !make_root::<Brand>(&nodes, &mut room, &mut seat) {
             return Err(AllocError);
         }
-        Ok(Congee { nodes })
+        Ok((Congee { nodes }, Guard { seat, room }))
     }
 
     /// The limit in bytes that the map was made with, or `u64::MAX`.
@@ -137,6 +147,7 @@ impl Congee {
                 left: 0,
                 spare: FreeNodes::none(),
                 cleanup_due: None,
+                is_last: false,
             },
         }
     }
@@ -170,11 +181,17 @@ impl Congee {
         ensures refused { OnErr result (guard.new ≡ guard.old) }
     {
         for _ in 0..TRIES {
-            let lacks = reserve(&self.nodes, alloc, &mut guard.room, &mut guard.seat).is_err();
-            match insert_once(&self.nodes, key, value, &mut guard.room, &mut guard.seat) {
+            match try_insert(
+                &self.nodes,
+                alloc,
+                key,
+                value,
+                &mut guard.room,
+                &mut guard.seat,
+            ) {
                 Ok(old) => return Ok(old),
-                Err(Refusal::OutOfMemory) if lacks => return Err(Refusal::OutOfMemory),
-                Err(_) => {}
+                Err(Refusal::OutOfMemory) => return Err(Refusal::OutOfMemory),
+                Err(Refusal::Busy) => {}
             }
         }
         Err(Refusal::Busy)

@@ -41,15 +41,16 @@ pub fn make_node(nodes: &Nodes, form: NodeType, room: &mut Room, seat: &mut Seat
     ensures grown { HasGrown seat.old.view seat.new.view }
     ensures made { 1 ≤ result → Sights seat.new.view result }
 {
-    if room.start >= 1 << 48 || room.left < 263 {
+    let count = words_in(form) + 1;
+    if room.start >= 1 << 48 || room.left < count as u64 {
         return 0;
     }
-    let Some(words) = nodes.span(room.start, words_in(form) + 1) else {
+    let Some(words) = nodes.span(room.start, count) else {
         return 0;
     };
     let name = make::<Brand>(words, room.start, form, seat);
-    room.start += words_in(form) as u64 + 1;
-    room.left -= words_in(form) as u64 + 1;
+    room.start += count as u64;
+    room.left -= count as u64;
     let _ = room.spare.keep(name);
     name
 }

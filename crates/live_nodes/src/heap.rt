@@ -139,7 +139,7 @@ impl<V, L: NodeLaw<V>> Heap<V, L> {
     pub fn grow(&self, alloc: Global, seat: &mut Seat<V, L>) -> Result<Option<Grown>, AllocError>
         requires { seat.old.book ≡ self.now }
         ensures seat { (seat.new.book ≡ seat.old.book) × (seat.new.id ≡ seat.old.id) }
-        ensures room { IfOk result (λ grown. IfSome grown (λ g. (1024 ≤ g.count)
+        ensures room { IfOk result (λ grown. IfSome grown (λ g. (512 ≤ g.count)
             × (g.start < 2 ^ 62) × (seat.new.view ≡ given seat.old.view g.start g.count))) }
         ensures lost { IfOk result (λ grown. IfNone grown (seat.new.view ≡ seat.old.view)) }
         ensures refused { OnErr result (seat.new.view ≡ seat.old.view) }
@@ -157,7 +157,7 @@ impl<V, L: NodeLaw<V>> Heap<V, L> {
     ) -> Result<Option<Grown>, AllocError>
         requires { seat.old.book ≡ self.now }
         ensures seat { (seat.new.book ≡ seat.old.book) × (seat.new.id ≡ seat.old.id) }
-        ensures room { IfOk result (λ grown. IfSome grown (λ g. (1024 ≤ g.count)
+        ensures room { IfOk result (λ grown. IfSome grown (λ g. (512 ≤ g.count)
             × (g.start < 2 ^ 62) × (seat.new.view ≡ given seat.old.view g.start g.count))) }
         ensures within { IfOk result (λ grown. IfSome grown (λ g.
             g.start + g.count ≤ L.root + 2 + before most)) }

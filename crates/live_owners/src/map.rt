@@ -1,5 +1,5 @@
 //! The map, its handles, and look-ups.
-ghost use Rattle.std.specs.Prelude.{◌≡◌, false, IfOk, IfSome, IfNone, OnErr};
+ghost use Rattle.std.specs.Prelude.{◌≡◌, ◌≤◌, false, IfOk, IfSome, IfNone, OnErr};
 ghost use Rattle.live_owners.specs.Owners.{IsHandleOf, IsNewHandle, KnowsMore, IsLoan, LookedInVain, FindsOwner, GetsOwner, RetiresNone};
 
 use crate::handle::{Lent, OwnersHandle};
@@ -30,13 +30,21 @@ impl Model for LiveOwners {
 
 impl LiveOwners {
     /// An empty map, whose nodes lie in segments that may take so many bytes together, as in `Congee::with_limit`. The slots of
-    /// the owners are beside these. `AllocError` if memory is missing, or the limit is below the first segment's 8,192 bytes.
+    /// the owners are beside these. `AllocError` if memory is missing, or the limit is below the first segment's 4,096 bytes.
     pub fn new(alloc: Global, limit: u64) -> Result<LiveOwners, AllocError>
         ensures limit { IfOk result (λ map. map.tickets.limit ≡ limit) }
     {
         let pool = Pool::with_limit(alloc, limit)?;
         let table = Owners::new(alloc)?;
         Ok(LiveOwners { pool, table })
+    }
+
+    /// The bytes of the segments that the map of tickets has so far, and how many bytes they may take together.
+    pub fn usage(&self) -> (u64, u64)
+        ensures within { result.0 ≤ result.1 }
+        ensures limit { result.1 ≡ self.now.tickets.limit }
+    {
+        self.pool.map.usage()
     }
 
     /// A new handle, which knows nothing. `None` where 64 are in use.

@@ -70,7 +70,7 @@ impl<K: Word, P: Drop> PayloadCongee<K, P> {
     }
 
     /// An empty map, whose nodes lie in segments that may take so many bytes together, as in `Congee::with_limit`. The slots of
-    /// the payloads are beside these. `OOMError` if memory is missing, or the limit is below the first segment's 8,192 bytes.
+    /// the payloads are beside these. `OOMError` if memory is missing, or the limit is below the first segment's 4,096 bytes.
     pub fn with_limit(alloc: Global, limit: u64) -> Result<Self, OOMError>
         ensures limit { IfOk result (λ map. map.tickets.limit ≡ limit) }
     {

@@ -114,21 +114,23 @@ impl Pool {
     }
 
     /// An empty map. It has a root of 2,104 bytes, the slots, the free lists and the queues. Its segments may take so many bytes
-    /// together, as in `Congee::with_limit`.
+    /// together, as in `Congee::with_limit`. The first guard gets what is left of the first one.
     pub fn with_limit(alloc: Global, limit: u64) -> Result<Pool, AllocError>
         ensures limit { IfOk result (λ pool. pool.limit ≡ limit) }
     {
-        let map = Congee::with_limit(alloc, limit)?;
+        let (map, guard) = Congee::with_guard(alloc, limit)?;
         let slots = free_slots(alloc, &map)?;
         let free_lists = no_free_lists(alloc, &map)?;
         let cleanup_queues = no_keys(alloc, &map)?;
-        Ok(Pool {
+        let pool = Pool {
             map,
             slots,
             free_lists,
             cleanup_queues,
             alloc,
-        })
+        };
+        pool.unpin(guard);
+        Ok(pool)
     }
 
     /// A guard that has seen nothing. It has the room of one that was given back, if there is one.

@@ -70,13 +70,13 @@ fn add_one(map: &Congee, alloc: Global, guard: &mut Guard, key: u64) -> Result<O
     add(map, alloc, guard, key, 1)
 }
 
-// A map of one segment has no memory for a leaf.
+// A map of one segment has no memory for a leaf, but by the guard that it was made with.
 fn refuse_a_leaf(rt: &impl Abort, alloc: Global, map: &Congee, guard: &mut Guard)
     requires { guard.old.book ≡ map.now }
 {
     let steps = [
-        map.limit() == 8_192,
-        map.usage() == (8_192, 8_192),
+        map.limit() == 4_096,
+        map.usage() == (4_096, 4_096),
         insert(map, alloc, guard, 7, 70) == Err(Refusal::OutOfMemory),
         get(map, guard, 7) == Ok(None),
     ];
@@ -87,8 +87,8 @@ fn refuse_a_leaf(rt: &impl Abort, alloc: Global, map: &Congee, guard: &mut Guard
 #[test]
 fn a_map_has_a_segment_at_least(rt: HostRuntime) -> Result<(), Fail> {
     assert!(rt; Congee::with_limit(rt.alloc(), 0).is_err());
-    assert!(rt; Congee::with_limit(rt.alloc(), 8_191).is_err());
-    let map = Congee::with_limit(rt.alloc(), 8_192)?;
+    assert!(rt; Congee::with_limit(rt.alloc(), 4_095).is_err());
+    let map = Congee::with_limit(rt.alloc(), 4_096)?;
     refuse_a_leaf(&rt, rt.alloc(), &map, &mut map.pin());
     Ok(())
 }
@@ -98,9 +98,9 @@ fn make_a_leaf(rt: &impl Abort, alloc: Global, map: &Congee, guard: &mut Guard)
 {
     let steps = [
         map.limit() == u64::MAX,
-        map.usage() == (8_192, u64::MAX),
+        map.usage() == (4_096, u64::MAX),
         insert(map, alloc, guard, 7, 70) == Ok(None),
-        map.usage().0 == 24_576,
+        map.usage().0 == 8_192,
     ];
     all_hold(rt, &steps);
 }
@@ -135,12 +135,12 @@ fn keep_when_full(rt: &impl Abort, alloc: Global, map: &Congee, guard: &mut Guar
 {
     let count = stored(map, alloc, guard);
     assert!(rt; count > 1_000 && count < 13_000);
-    assert!(rt; map.usage().0 == 122_880);
+    assert!(rt; map.usage().0 == 126_976);
     work_when_full(rt, alloc, map, guard, count);
     let steps = [
         replaced(map, alloc, guard, count) == count,
         found(map, guard, count) == count,
-        map.usage().0 == 122_880,
+        map.usage().0 == 126_976,
     ];
     all_hold(rt, &steps);
 }

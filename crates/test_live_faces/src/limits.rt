@@ -83,12 +83,12 @@ fn replace_when_full<R: Wait + Abort>(rt: &R, alloc: Global, map: &Map, one: u64
         // (one of them may come late)
         one.wrapping_add(two) > 200,
         map.limit() == LIMIT,
-        map.usage() == (516_096, LIMIT),
+        map.usage() == (983_040, LIMIT),
         found(rt, map, 0, one) == one,
         found(rt, map, 1, two) == two,
         one == 0 || is_replaced(rt, alloc, map, 0),
         two == 0 || is_replaced(rt, alloc, map, 1),
-        map.charged() == 516_096,
+        map.charged() == 983_040,
     ];
     all_hold(rt, &steps);
 }
@@ -103,9 +103,9 @@ fn two_threads_fill_a_map_up_to_its_limit(rt: HostRuntime) -> Result<(), Fail> {
 
 #[test]
 fn a_limit_is_at_least_that_of_one_segment(rt: HostRuntime) -> Result<(), Fail> {
-    let refused: Result<Map, _> = Congee::with_limit(rt.alloc(), 8_191);
+    let refused: Result<Map, _> = Congee::with_limit(rt.alloc(), 4_095);
     assert!(rt; refused.is_err());
     let map: Map = Congee::new(rt.alloc())?;
-    assert!(rt; map.limit() == u64::MAX && map.charged() == 8_192);
+    assert!(rt; map.limit() == u64::MAX && map.charged() == 4_096);
     Ok(())
 }

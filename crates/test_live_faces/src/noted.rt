@@ -23,7 +23,7 @@ fn learn_a_note(
     learn(b, &mut note);
     // (what was removed after the note is gone, too)
     assert!(rt; map.try_get(b, &7) == Ok(None));
-    assert!(rt; map.usage() == (24_576, u64::MAX));
+    assert!(rt; map.usage() == (4_096, u64::MAX));
 }
 
 #[test]

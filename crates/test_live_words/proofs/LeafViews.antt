@@ -352,10 +352,10 @@ module _ (v : View) (words : List Name) (b : Book) (may : MayFill words b v) (fo
 
 -- A SEAT HAS NEW ROOM
 abbrev pub HasRoom : View → View → ℕ → Type 0
-HasRoom v w key = (n : ℕ) × (1024 ≤ n) × (key < 2 ^ 62) × (w ≡ given v key n)
+HasRoom v w key = (n : ℕ) × (512 ≤ n) × (key < 2 ^ 62) × (w ≡ given v key n)
 
 abbrev pub HasGot : View → View → Grown → Type 0
-HasGot v w g = (1024 ≤ g.count) × (g.start < 2 ^ 62) × (w ≡ given v g.start g.count)
+HasGot v w g = (512 ≤ g.count) × (g.start < 2 ^ 62) × (w ≡ given v g.start g.count)
 
 pub room_in : (o : Option Grown) (g : Grown) (v w : View) → o ≡ Some g → IfSome o (HasGot v w) → HasRoom v w g.start
 room_in o g v w is r = let got = subst (λ (z : Option Grown). IfSome z (HasGot v w)) is r in (g.count, got.0, got.1, got.2)

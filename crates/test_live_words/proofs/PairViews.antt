@@ -192,22 +192,22 @@ pub frees_leaf : (id c k m x : ℕ) (d : Content) → length d ≡ 2 → 1 ≤ k
 frees_leaf id c k m x d long some_leaf = subst (λ (z : Content). Frees ArePairs id c k m z (StaysSame c k z)) (sym (paired d x long)) (leaf_frees id c k m (x ∷ x ∷ []) some_leaf (refl, refl))
 
 -- A LEAF IS MADE
-pub three_more : (n : ℕ) → 1024 ≤ n → (m : ℕ) × (n ≡ suc (suc (suc m)))
+pub three_more : (n : ℕ) → 512 ≤ n → (m : ℕ) × (n ≡ suc (suc (suc m)))
 three_more zero long = absurd (omega (arith, long))
 three_more (suc zero) long = absurd (omega (arith, long))
 three_more (suc (suc zero)) long = absurd (omega (arith, long))
 three_more (suc (suc (suc m))) long = (m, refl)
 
 abbrev pub HasRoom : View → View → ℕ → Type 0
-HasRoom v w key = (n : ℕ) × (1024 ≤ n) × (key < 2 ^ 62) × (w ≡ given v key n)
+HasRoom v w key = (n : ℕ) × (512 ≤ n) × (key < 2 ^ 62) × (w ≡ given v key n)
 
 abbrev pub HasGot : View → View → Grown → Type 0
-HasGot v w g = (1024 ≤ g.count) × (g.start < 2 ^ 62) × (w ≡ given v g.start g.count)
+HasGot v w g = (512 ≤ g.count) × (g.start < 2 ^ 62) × (w ≡ given v g.start g.count)
 
 pub room_in : (o : Option Grown) (g : Grown) (v w : View) → o ≡ Some g → IfSome o (HasGot v w) → HasRoom v w g.start
 room_in o g v w is r = let got = subst (λ (z : Option Grown). IfSome z (HasGot v w)) is r in (g.count, got.0, got.1, got.2)
 
-module _ (v : View) (key n x : ℕ) (long : 1024 ≤ n) where
+module _ (v : View) (key n x : ℕ) (long : 512 ≤ n) where
   -- its first number is written
   abbrev half : View
   half = seat_view v.client v.places v.reads v.holds (room_at key (0 ∷ x ∷ 0 ∷ replicate (three_more n long).0 0))

@@ -1,11 +1,12 @@
 -- How many words each segment has, and which keys.
-use Rattle.std.specs.Prelude.{◌≡◌, ℕ, zero, suc, ◌+◌, ◌*◌, ◌^◌, ◌<◌, min, List, [], ◌∷◌, length, slice_index_or}
+use Rattle.std.specs.Prelude.{◌≡◌, ℕ, zero, suc, ◌+◌, ◌*◌, ◌/◌, ◌^◌, ◌<◌, min, List, [], ◌∷◌, length, slice_index_or}
 use base.Stored.{Coded, coded×, coded_ℕ, coded_via}
 use Rattle.boxcar.specs.Table.{first, others}
 use Rattle.word_book.specs.Book.{Book, book_coded, Name, name}
 
+-- the first 32 have 512 words each, the next 32 twice as many, and so on up to 65,536
 abbrev pub size : ℕ → ℕ
-size j = 1024 * 2 ^ min j 6
+size j = 512 * 2 ^ min (j / 32) 7
 
 -- how many words all segments before this one have
 abbrev pub before : ℕ → ℕ

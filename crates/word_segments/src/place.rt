@@ -1,5 +1,5 @@
 //! Which segment a word is in, and which shelf a segment.
-ghost use Rattle.std.specs.Prelude.{◌≡◌, ◌+◌, ◌*◌, ◌<◌, ◌≤◌, ◌^◌};
+ghost use Rattle.std.specs.Prelude.{◌≡◌, ◌+◌, ◌*◌, ◌/◌, ◌<◌, ◌≤◌, ◌^◌};
 ghost use Rattle.boxcar.specs.Table.{span, IsAt};
 ghost use Rattle.word_segments.specs.Segments.{size, before, IsWithin};
 
@@ -10,7 +10,11 @@ pub const SHELVES: usize = 40;
 pub fn size_of(number: u64) -> usize
     ensures { (result ≡ size number) × (result < 2 ^ 17) }
 {
-    if number < 6 { 1024 << number } else { 65536 }
+    if number < 224 {
+        512 << (number / 32)
+    } else {
+        65536
+    }
 }
 
 /// How many words all segments before `number` have.
@@ -18,11 +22,37 @@ pub fn before_of(number: u64) -> u64
     requires { number < 2 ^ 44 }
     ensures { (result ≡ before number) × (result < 2 ^ 61) }
 {
-    if number < 6 {
-        (1024 << number) - 1024
+    if number < 224 {
+        ((32 + number % 32) << (number / 32 + 9)) - 16384
     } else {
-        (number - 6) * 65536 + 64512
+        (number - 224) * 65536 + 2080768
     }
+}
+
+// The segment of a word among those that double, and the word's place there. By 16,384 more, a place has its segment in the five
+// bits below its highest one.
+#[inline(always)]
+fn locate_near(place: u64) -> (u64, u64)
+    requires { place < 2080768 }
+    ensures within { IsWithin place result.0 result.1 }
+    ensures small { result.0 < 224 }
+{
+    let skewed = place + 16384;
+    let top = skewed.ilog2();
+    let unit = top - 5;
+    let at = skewed >> unit;
+    (32 * top as u64 + at - 480, skewed - (at << unit))
+}
+
+// The segment of a word behind these, and the word's place there.
+#[inline(always)]
+fn locate_far(place: u64) -> (u64, u64)
+    requires { 2080768 ≤ place }
+    ensures within { IsWithin place result.0 result.1 }
+    ensures small { result.0 ≤ place / 65536 + 224 }
+{
+    let rest = place - 2080768;
+    (rest / 65536 + 224, rest % 65536)
 }
 
 /// How many segments fit into so many bytes, from the first one on.
@@ -31,29 +61,28 @@ pub fn fitting(bytes: u64) -> u64
     ensures most { bytes < 8 * before (result + 1) }
 {
     let words = bytes / 8;
-    if words < 64512 {
-        return (words / 1024 + 1).ilog2() as u64;
+    if words < 2080768 {
+        return locate_near(words).0;
     }
-    (words - 64512) / 65536 + 6
+    locate_far(words).0
 }
 
 /// The segment of a word, and the word's place there.
+#[inline(always)]
 pub fn locate(place: u64) -> (u64, u64)
     requires { place < 2 ^ 60 }
     ensures within { IsWithin place result.0 result.1 }
-    ensures small { result.0 < 2 ^ 44 + 7 }
+    ensures small { result.0 < 2 ^ 44 + 225 }
 {
-    if place < 64512 {
-        let number = (place / 1024 + 1).ilog2() as u64;
-        return (number, place + 1024 - (1024 << number));
+    if place < 2080768 {
+        return locate_near(place);
     }
-    let rest = place - 64512;
-    (rest / 65536 + 6, rest % 65536)
+    locate_far(place)
 }
 
 /// The shelf of a segment, and the segment's slot there.
 pub fn shelve(number: u64) -> (usize, usize)
-    requires { number < 2 ^ 44 + 7 }
+    requires { number < 2 ^ 44 + 225 }
     ensures at { IsAt number result.0 result.1 }
     ensures shelf { result.0 < 40 }
 {

@@ -12,8 +12,8 @@ use std::marker::Model;
 use word_book::seat::{Pens, Rule};
 use word_book::word::Word;
 
-// How many segments lie in the directory itself: those of 60 MB.
-const NEAR: usize = 128;
+// How many segments lie in the directory itself: those of 100 MB.
+const NEAR: usize = 384;
 
 // One past the last place of a word.
 const LIMIT: u64 = 1 << 60;
@@ -66,7 +66,7 @@ fn with_number(number: usize, tag: &Tag) -> Tag
     tag
 }
 
-/// The segments of a book, by number. The key of the first one's first word is fixed when it is made. The first 128 lie in
+/// The segments of a book, by number. The key of the first one's first word is fixed when it is made. The first 384 lie in
 /// the directory itself.
 #[derive(Drop)]
 pub struct Segments<V, P: Rule<V>> {
@@ -84,7 +84,7 @@ impl<V, P: Rule<V>> Model for Segments<V, P> {
     ghost view = { λ s. directed_by s.tag.numbers };
 
     ghost invariant = { λ s. Tagged s.tag.numbers 0 40 s.shelves.items × (first s.tag.numbers ≡ s.base)
-        × Tagged s.tag.numbers 0 128 s.near.items };
+        × Tagged s.tag.numbers 0 384 s.near.items };
 }
 
 /// The next words of a book, as many as the pens may write, in memory that is there.
@@ -134,10 +134,10 @@ impl<V, P: Rule<V>> Segments<V, P> {
     // The segment with a number, if it is in the directory.
     #[inline(always)]
     fn segment(&self, number: u64) -> Option<&Vec<Word<V, P>>>
-        requires { number < 2 ^ 44 + 7 }
+        requires { number < 2 ^ 44 + 225 }
         ensures { IfSome result (λ words. IsSegment self.now number words.now.items) }
     {
-        if number < 128 {
+        if number < 384 {
             return self.near[number as usize].get();
         }
         self.far(number)
@@ -146,7 +146,7 @@ impl<V, P: Rule<V>> Segments<V, P> {
     // The same of a segment on a shelf.
     #[inline(never)]
     fn far(&self, number: u64) -> Option<&Vec<Word<V, P>>>
-        requires { number < 2 ^ 44 + 7 }
+        requires { number < 2 ^ 44 + 225 }
         ensures { IfSome result (λ words. IsSegment self.now number words.now.items) }
     {
         let (shelf, slot) = shelve(number);
@@ -195,7 +195,7 @@ impl<V, P: Rule<V>> Segments<V, P> {
         requires { number < 2 ^ 44 }
         ensures { IfOk result (λ got. IfSome got (λ words. (words.items ≡ []) × (size number ≤ words.cap))) }
     {
-        if number < 128 {
+        if number < 384 {
             return Ok(Some(Vec::with_capacity(alloc, size_of(number))?));
         }
         let (shelf, _) = shelve(number);
@@ -215,7 +215,7 @@ impl<V, P: Rule<V>> Segments<V, P> {
         requires segment { IsSegment self.now number words.items }
         ensures { IfErr result (λ back. back.items ≡ words.items) }
     {
-        if number < 128 {
+        if number < 384 {
             return match self.near[number as usize].set(words) {
                 Ok(_) => Ok(()),
                 Err(words) => Err(words),

@@ -96,7 +96,7 @@ impl<K: Word, V: Word> OrdLiveMap<K, V> {
     ///
     /// # fn main() -> Result<(), Box<dyn std::error::Error>> {
     /// let map = OrdLiveMap::<i32, char>::with_limit(10_000)?;
-    /// assert_eq!(map.charged(), 8192);
+    /// assert_eq!(map.charged(), 4096);
     /// # Ok(())
     /// # }
     /// ```
@@ -129,7 +129,7 @@ impl<K: Word, V: Word> OrdLiveMap<K, V> {
     ///
     /// # fn main() -> Result<(), Box<dyn std::error::Error>> {
     /// let map = OrdLiveMap::<i32, char>::with_limit(10_000)?;
-    /// assert_eq!(map.usage(), (8192, 10_000));
+    /// assert_eq!(map.usage(), (4096, 10_000));
     /// # Ok(())
     /// # }
     /// ```
@@ -951,7 +951,7 @@ impl<K: Word, V: Word> OrdLiveGuard<K, V> {
     ///
     /// # fn main() -> Result<(), Box<dyn std::error::Error>> {
     /// let guard = OrdLiveMap::<i32, char>::with_limit(10_000)?.pin()?;
-    /// assert_eq!(guard.charged(), 8192);
+    /// assert_eq!(guard.charged(), 4096);
     /// # Ok(())
     /// # }
     /// ```
@@ -982,7 +982,7 @@ impl<K: Word, V: Word> OrdLiveGuard<K, V> {
     ///
     /// # fn main() -> Result<(), Box<dyn std::error::Error>> {
     /// let guard = OrdLiveMap::<i32, char>::with_limit(10_000)?.pin()?;
-    /// assert_eq!(guard.usage(), (8192, 10_000));
+    /// assert_eq!(guard.usage(), (4096, 10_000));
     /// # Ok(())
     /// # }
     /// ```

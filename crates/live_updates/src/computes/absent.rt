@@ -8,7 +8,7 @@ ghost use Rattle.live_updates.specs.inner.Updates.{Update, IsUpdate};
 ghost use Rattle.live_updates.specs.inner.Ends.{Tries, Enters};
 
 use crate::leaf::{Missed, Updates, update_here};
-use live_growth::insert::{enlarge, extend, part, reserve};
+use live_growth::insert::{enlarge, extend, make_room, part};
 use live_growth::link::Room;
 use live_growth::map::{Refusal, TRIES};
 use live_reads::descend::{End, Position, descend};
@@ -92,6 +92,32 @@ fn enter_once<U: Updates>(
     enter_at::<U>(nodes, position, key, value, room, seat)
 }
 
+/// Gives an absent key a value, as by `enter_once`. Where a node is lacking, there is more room instead. `Lacks` where there is no
+/// memory for that, nor a larger node.
+fn try_enter<U: Updates>(
+    nodes: &Nodes,
+    alloc: Global,
+    key: u64,
+    value: u64,
+    room: &mut Room,
+    seat: &mut Seat,
+) -> Tried
+    requires book { seat.old.book ≡ nodes.now }
+    requires asks { (U.update.key ≡ key) × (U.update.caller ≡ seat.old.id) }
+    requires values { (U.update.old ≡ None) × (U.update.new ≡ Some value) }
+    requires legal { IsUpdate U.update }
+    requires ready { IsReady seat.old.view room.old }
+    ensures told { (seat.new.book ≡ seat.old.book) × (seat.new.id ≡ seat.old.id)
+        × IsReady seat.new.view room.new
+        × Tries U.update result seat.old.view seat.new.view }
+{
+    let tried = enter_once::<U>(nodes, key, value, room, seat);
+    if tried == Tried::Lacks && make_room(nodes, alloc, room, seat) {
+        return Tried::Again;
+    }
+    tried
+}
+
 /// Gives an absent key a value. `false` where it has one already.
 pub fn enter<U: Updates>(
     nodes: &Nodes,
@@ -111,15 +137,10 @@ pub fn enter<U: Updates>(
         × Enters U.update result seat.old.view seat.new.view }
 {
     for _ in 0..TRIES {
-        let lacks = reserve(nodes, alloc, room, seat).is_err();
-        match enter_once::<U>(nodes, key, value, room, seat) {
+        match try_enter::<U>(nodes, alloc, key, value, room, seat) {
             Tried::Entered => return Ok(true),
             Tried::Present => return Ok(false),
-            Tried::Lacks => {
-                if lacks {
-                    return Err(Refusal::OutOfMemory);
-                }
-            }
+            Tried::Lacks => return Err(Refusal::OutOfMemory),
             Tried::Again => {}
         }
     }

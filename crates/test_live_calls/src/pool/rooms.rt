@@ -11,10 +11,13 @@ use std::process::Abort;
 use std::test::Fail;
 use std::thread::{Threads, join};
 
-// The root's words come first, then 1,024 with the root's node. The next 2,048 are the first guard's that inserts.
-const START: u64 = 3 + 1024;
+// The root's words come first, then a segment with the root's node. What is left of it is the first guard's.
+const START: u64 = 3 + 263;
 
-const COUNT: u64 = 2048;
+const COUNT: u64 = SEGMENT - 263;
+
+// How many words each of the first segments has.
+const SEGMENT: u64 = 512;
 
 // How many guards there are at once.
 const GUARDS: u64 = 20;
@@ -66,7 +69,6 @@ fn take_the_room(rt: &impl Abort, map: &Pool, room: Room, next: Room) {
 #[test]
 fn the_next_guard_has_the_room(rt: HostRuntime) -> Result<(), Fail> {
     let map = Pool::new(rt.alloc())?;
-    assert!(rt; next_room(&map).left == 0);
     let room = given_back(&map, rt.alloc(), 5).ok_or("no key is stored")?;
     let next = given_back(&map, rt.alloc(), 500).ok_or("no second key is stored")?;
     take_the_room(&rt, &map, room, next);
@@ -85,7 +87,7 @@ fn a_guard_that_is_dropped_leaves_no_room(rt: HostRuntime) -> Result<(), Fail> {
     assert!(rt; dropped(&map, rt.alloc(), 5));
     assert!(rt; next_room(&map).left == 0);
     // One without a room isn't kept, and doesn't come before those that have one.
-    let room = given_back(&map, rt.alloc(), 6).ok_or("no key is stored")?;
+    let room = given_back(&map, rt.alloc(), 600).ok_or("no key is stored")?;
     map.unpin(map.map.pin());
     assert!(rt; next_room(&map) == room);
     Ok(())
@@ -139,8 +141,8 @@ fn in_turn(map: &Pool, alloc: Global, first: u64) -> u64 {
 fn a_thousand_guards_in_turn_have_one_room(rt: HostRuntime) -> Result<(), Fail> {
     let map = Pool::new(rt.alloc())?;
     assert!(rt; in_turn(&map, rt.alloc(), 0) == TURNS);
-    // Sixteen leaves take less than 16 * 500 words, so the fourth segment of that room has more than enough.
-    assert!(rt; next_room(&map).start < START + 2048 + 4096 + 8192);
+    // Sixteen leaves take less than 16 * 500 words, so twenty segments have more than enough.
+    assert!(rt; next_room(&map).start < START + 20 * SEGMENT);
     assert!(rt; next_room(&map).left == 0);
     Ok(())
 }
@@ -221,7 +223,7 @@ fn go_twice(rt: &impl Abort, alloc: Global, map: &Pool, guard: &mut Guard)
     all_hold(rt, &steps);
 }
 
-// Another guard has a segment of its own, the next larger one. All its leaves but two are those of the first guard. It makes
+// Another guard has a segment of its own. All its leaves but two are those of the first guard. It makes
 // those, and an inner node for sixteen, since the first guard keeps its own.
 fn go_by_another(rt: &impl Abort, alloc: Global, map: &Pool) {
     let (stored, room) = by_another(map, alloc);
@@ -229,7 +231,7 @@ fn go_by_another(rt: &impl Abort, alloc: Global, map: &Pool) {
     let steps = [
         stored == LEAVES,
         used < 40,
-        used.wrapping_add(room.left) == 2 * COUNT,
+        used.wrapping_add(room.left) == SEGMENT,
     ];
     all_hold(rt, &steps);
 }
@@ -266,8 +268,8 @@ fn a_window_that_moves_on_stays_in_its_room(rt: HostRuntime) -> Result<(), Fail>
     let mut guard = map.pin();
     assert!(rt; move_on(&map, rt.alloc(), &mut guard, 1, 0, 20_000) == 20_000);
     let room = guard.room;
-    // (two leaves of the largest form, and one of each other form)
-    assert!(rt; room.start < START + COUNT);
+    // (two leaves of the largest form lie in a segment each)
+    assert!(rt; room.start < START + COUNT + 3 * SEGMENT);
     Ok(())
 }
 

@@ -51,26 +51,35 @@ fn a_leaf_is_read_as_it_was_made_and_written(rt: HostRuntime) -> Result<(), Fail
     Ok(())
 }
 
-// A number, and the key of the leaf of it, which lies in a segment of its own.
-const KEYS: [(u64, u64); 9] = [
-    (1, 3),
-    (2, 1_027),
-    (3, 3_075),
-    (4, 7_171),
-    (4, 15_363),
-    (4, 31_747),
-    (4, 64_515),
-    (5, 130_051),
-    (6, 195_587),
+// Which leaf, counted from 0, and its key. Each lies in a segment of its own: 32 of 512 words, 32 of 1,024 and so on, and from the
+// leaf 224 on all of 65,536. That of the leaf 384 is the first on a shelf.
+const KEYS: [(u64, u64); 12] = [
+    (0, 3),
+    (1, 515),
+    (31, 15_875),
+    (32, 16_387),
+    (33, 17_411),
+    (63, 48_131),
+    (64, 49_155),
+    (223, 2_048_003),
+    (224, 2_080_771),
+    (225, 2_146_307),
+    (383, 12_500_995),
+    (384, 12_566_531),
 ];
 
 // How many leaves have the keys that they should.
 fn right_keys(nodes: &Nodes, alloc: Global) -> usize {
     let mut right = 0usize;
-    for (x, key) in KEYS {
-        if named(nodes, alloc, x) == key {
+    let mut next = 0u64;
+    for (number, key) in KEYS {
+        for other in next..number {
+            let _ = named(nodes, alloc, other);
+        }
+        if named(nodes, alloc, number) == key {
             right = right.wrapping_add(1);
         }
+        next = number.wrapping_add(1);
     }
     right
 }
@@ -79,7 +88,7 @@ fn right_keys(nodes: &Nodes, alloc: Global) -> usize {
 fn each_leaf_lies_in_its_own_segment(rt: HostRuntime) -> Result<(), Fail> {
     let nodes = new_nodes(rt.alloc())?;
     assert!(rt; right_keys(&nodes, rt.alloc()) == KEYS.len());
-    assert!(rt; looked(&nodes) == Some((6, 6)));
+    assert!(rt; looked(&nodes) == Some((384, 384)));
     Ok(())
 }
 
@@ -231,7 +240,7 @@ fn an_obsolete_leaf_is_neither_read_nor_written(rt: HostRuntime) -> Result<(), F
     assert!(rt; retired(&nodes));
     assert!(rt; looked(&nodes) == None);
     assert!(rt; !written(&nodes, 9) && !renewed(&nodes, 9) && !retired(&nodes));
-    assert!(rt; named(&nodes, rt.alloc(), 9) == 3 + 1024);
+    assert!(rt; named(&nodes, rt.alloc(), 9) == 3 + 512);
     assert!(rt; looked(&nodes) == Some((9, 9)));
     Ok(())
 }
@@ -286,21 +295,21 @@ fn within(alloc: Global, limit: u64) -> Option<(u64, u64)> {
     if nodes.limit() != limit {
         return None;
     }
-    let made = named_often(&nodes, alloc, 9);
+    let made = named_often(&nodes, alloc, 200);
     Some((made, charged(&nodes)))
 }
 
 // Limits, and how many segments each is for, of how many bytes.
 const LIMITS: [(u64, u64, u64); 9] = [
     (0, 0, 0),
-    (8_191, 0, 0),
-    (8_192, 1, 8_192),
-    (24_575, 1, 8_192),
-    (24_576, 2, 24_576),
-    (57_344, 3, 57_344),
-    (1_040_383, 6, 516_096),
-    (1_040_384, 7, 1_040_384),
-    (1_564_672, 8, 1_564_672),
+    (4_095, 0, 0),
+    (4_096, 1, 4_096),
+    (8_191, 1, 4_096),
+    (8_192, 2, 8_192),
+    (139_263, 32, 131_072),
+    (139_264, 33, 139_264),
+    (1_048_575, 99, 1_015_808),
+    (1_048_576, 100, 1_048_576),
 ];
 
 #[test]
@@ -316,10 +325,10 @@ fn both_within<R: Threads + Sync>(rt: &R, alloc: Global, limit: u64) -> Option<u
     let shared = &nodes;
     let (one, two) = join(
         rt,
-        || named_often(shared, alloc, 20),
-        || named_often(shared, alloc, 20),
+        || named_often(shared, alloc, 100),
+        || named_often(shared, alloc, 100),
     );
-    if one.wrapping_add(two) > 7 {
+    if one.wrapping_add(two) > 32 {
         return None;
     }
     Some(charged(shared))
@@ -328,6 +337,6 @@ fn both_within<R: Threads + Sync>(rt: &R, alloc: Global, limit: u64) -> Option<u
 #[test]
 fn two_threads_make_no_segment_past_the_limit(rt: HostRuntime) {
     for _ in 0..20u32 {
-        assert!(rt; both_within(&rt, rt.alloc(), 1_564_671) == Some(1_040_384));
+        assert!(rt; both_within(&rt, rt.alloc(), 139_263) == Some(131_072));
     }
 }

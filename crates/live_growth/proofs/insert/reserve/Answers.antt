@@ -11,5 +11,5 @@ returns c =
     let w = c.grow.new.seat.view in
     let g = c.in-Some.grown in
     let some : c.in_ok-grown.field-0 ≡ Some g = search rules in
-    let got = some_by c.in_ok-grown.field-0 g some (λ x. (1024 ≤ x.count) × (x.start < 2 ^ 62) × (w ≡ given v x.start x.count)) c.in_ok-grown.ensures.room in
+    let got = some_by c.in_ok-grown.field-0 g some (λ x. (512 ≤ x.count) × (x.start < 2 ^ 62) × (w ≡ given v x.start x.count)) c.in_ok-grown.ensures.room in
     record { told = (c.grow.ensures.seat.0, c.grow.ensures.seat.1, ready_given v w c.args.room.now g.start g.count c.requires.ready got.2, ap (λ (z : SeatView View). z.client.seen) got.2) }

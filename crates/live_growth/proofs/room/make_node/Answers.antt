@@ -1,8 +1,8 @@
-use Rattle.std.proofs.Common.{arith, refl, ◌+◌, ◌-◌}
+use Rattle.std.proofs.Common.{arith, refl, ◌+◌, ◌-◌, ◌≤◌}
 use Rattle.live_layout.specs.Encodes.{words_of}
 use Rattle.live_growth.proofs.Linked.{room_after}
 use Rattle.live_growth.proofs.Ready.{ready_with, free_nodes_grown}
-use Rattle.live_growth.proofs.Rooms.{some_words, made_grown, made_sighted}
+use Rattle.live_growth.proofs.Rooms.{made_grown, made_sighted}
 use Rattle.live_growth.proofs.room.make_node.Goals as goal
 
 pub returns-clause-ready : goal.returns-clause-ready
@@ -14,11 +14,10 @@ returns-clause-ready c =
     let ready = c.requires.ready in
     let made = c.make-name.ensures.made in
     let grown = made_grown v w form c.make-name.result made ready.own ready.holds in
-    let few = (some_words form).1 in
-    let some = c.if-room-lt263.false in
-    let words = c.make-name.ensures.room room.left ready.words (omega (arith, few, some)) in
-    let n = c.words_in-2.ensures in
-    let m = c.words_in-3.ensures in
-    let left = room_after w w (room.start + words_of form + 1) (room.left - (words_of form + 1)) (room.start + (c.words_in-2.result + 1)) (room.left - (c.words_in-3.result + 1)) refl (omega (arith, n)) (omega (arith, m)) words in
+    let n = c.words_in-count.ensures in
+    let some = c.if-room-count.false in
+    let enough : words_of form + 1 ≤ room.left = omega (arith, n, some) in
+    let words = c.make-name.ensures.room room.left ready.words enough in
+    let left = room_after w w (room.start + words_of form + 1) (room.left - (words_of form + 1)) (room.start + (c.words_in-count.result + 1)) (room.left - (c.words_in-count.result + 1)) refl (omega (arith, n)) (omega (arith, n)) words in
     let spare = c.keep.ensures.kept w (free_nodes_grown v w room.spare grown ready.spare) (made_sighted v w form c.make-name.result made) in
-    ready_with v w room (record room { start = room.start + (c.words_in-2.result + 1); left = room.left - (c.words_in-3.result + 1); spare = c.keep.new.self }) ready grown left spare
+    ready_with v w room (record room { start = room.start + (c.words_in-count.result + 1); left = room.left - (c.words_in-count.result + 1); spare = c.keep.new.self }) ready grown left spare

@@ -1,10 +1,12 @@
-use Rattle.std.proofs.Common.{arith, ◌^◌, ◌≤◌, pow_mono}
-use Rattle.word_segments.proofs.Sizes.{before_small, before_large, shifted}
+use Rattle.std.proofs.Common.{arith}
+use Rattle.word_segments.proofs.Sizes.{before_near_shifted, before_far}
 use Rattle.word_segments.proofs.place.before_of.Goals as goal
 
-pub returns-then-number-lt6 : goal.returns-then-number-lt6
-returns-then-number-lt6 c = let n = c.args.number in let few = c.if-number-lt6.true in let is = shifted n few in
-    let small : 2 ^ n ≤ 64 = (let le : n ≤ 6 = omega (arith, few) in pow_mono le) in ((before_small n few).0, omega (arith, is, small))
+pub overflow_sub-result : goal.overflow_sub-result
+overflow_sub-result c = (before_near_shifted c.args.number c.if-number-lt224.true).0
 
-pub returns-else-number-lt6 : goal.returns-else-number-lt6
-returns-else-number-lt6 c = (before_large c.args.number c.if-number-lt6.false, omega (arith, c.requires, c.if-number-lt6.false))
+pub returns-then-number-lt224 : goal.returns-then-number-lt224
+returns-then-number-lt224 c = let b = before_near_shifted c.args.number c.if-number-lt224.true in (b.1, omega (arith, b))
+
+pub returns-else-number-lt224 : goal.returns-else-number-lt224
+returns-else-number-lt224 c = (before_far c.args.number c.if-number-lt224.false, omega (arith, c.requires, c.if-number-lt224.false))

@@ -1,0 +1,45 @@
+//! Where a new handle of a map of owners is written.
+//!
+//! Tested in `tools/c-library`.
+
+ghost use Rattle.std.specs.Prelude.{◌≡◌, Option, Some};
+ghost use Rattle.live_owners.specs.Owners.{OwnersKnown};
+ghost use Rattle.congee_live_c.specs.contracts.owners.held.Held.{the_row as held_row};
+ghost use Rattle.congee_live_c.specs.inner.Owned.{room_owns, room_coded};
+
+use crate::owners::held::Held;
+use crate::parts::Parts;
+use std::alloc::Global;
+use std::marker::Model;
+
+/// A place for a handle, which may have one. An export can't return a pointer, so it writes here.
+#[repr(C)]
+#[derive(Drop)]
+pub struct Room {
+    ptr: *mut u8,
+    alloc: Global,
+    pub ghost held: { Option OwnersKnown } by { room_coded held_row },
+}
+
+impl Model for Room {
+    ghost also_owns = { λ r. room_owns held_row r.alloc r.ptr r.held };
+}
+
+impl Room {
+    /// A place with a handle of this.
+    pub(crate) fn of(held: Box<Held>) -> Room
+        ensures { result.held ≡ Some held.value }
+    {
+        Room::of_parts(Parts::of(held))
+    }
+
+    fn of_parts(parts: Parts<Held, Global>) -> Room
+        ensures { result.held ≡ Some parts.value }
+    {
+        let Parts { ptr, alloc } = parts;
+        Room {
+            ptr: ptr as *mut u8,
+            alloc,
+        }
+    }
+}

@@ -1,0 +1,5 @@
+use Rattle.live_growth.proofs.Ready.{ready_is_last}
+use Rattle.live_growth.proofs.insert.make_room.Goals as goal
+
+pub returns : goal.returns
+returns c = let t = c.reserve.ensures.told in record { told = (t.0, t.1, ready_is_last c.reserve.new.seat.view c.reserve.new.room _ t.2, t.3) }

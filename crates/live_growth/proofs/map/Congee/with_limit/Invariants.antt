@@ -1,6 +1,0 @@
-use Rattle.std.proofs.Common.{false}
-use Rattle.live_law.specs.Views.{ask}
-use Rattle.live_growth.proofs.map.Congee.with_limit.Given as goal
-
-abbrev pub ghosts-make_root : goal.ghosts-make_root
-ghosts-make_root a = record { ask = ask a.seat.now.id 0 0 8; reads = false }
