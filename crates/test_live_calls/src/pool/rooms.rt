@@ -125,30 +125,54 @@ fn guards_at_once_have_rooms_of_their_own(rt: HostRuntime) -> Result<(), Fail> {
     Ok(())
 }
 
-// One guard after another stores a key that is new: how many have.
+// Whether a new guard, which is given back, stores a key. (A call may be busy while another thread has locked a node on its path.)
+fn stored_by_another(map: &Pool, alloc: Global, key: u64) -> bool {
+    let mut guard = map.pin();
+    let stored = map.insert(alloc, &mut guard, key, key ^ 3).is_ok();
+    map.unpin(guard);
+    stored
+}
+
+// One guard after another stores a key, until so many are stored: how many are.
 fn in_turn(map: &Pool, alloc: Global, first: u64) -> u64 {
     let mut stored = 0u64;
-    for turn in 0..TURNS {
-        let key = first.wrapping_add(turn.wrapping_mul(4));
-        if given_back(map, alloc, key).is_some() {
+    for _ in 0..100_000_000u32 {
+        if stored == TURNS {
+            return stored;
+        }
+        let key = first.wrapping_add(stored.wrapping_mul(4));
+        if stored_by_another(map, alloc, key) {
             stored = stored.wrapping_add(1);
         }
     }
     stored
 }
 
+// How many of those keys have the values that were stored.
+fn read_back(map: &Pool, first: u64) -> u64 {
+    let mut guard = map.pin();
+    let mut there = 0u64;
+    for turn in 0..TURNS {
+        let key = first.wrapping_add(turn.wrapping_mul(4));
+        if map.map.get(&mut guard, key) == Ok(Some(key ^ 3)) {
+            there = there.wrapping_add(1);
+        }
+    }
+    there
+}
+
 #[test]
 fn a_thousand_guards_in_turn_have_one_room(rt: HostRuntime) -> Result<(), Fail> {
     let map = Pool::new(rt.alloc())?;
     assert!(rt; in_turn(&map, rt.alloc(), 0) == TURNS);
+    assert!(rt; read_back(&map, 0) == TURNS);
     // Sixteen leaves take less than 16 * 500 words, so twenty segments have more than enough.
     assert!(rt; next_room(&map).start < START + 20 * SEGMENT);
     assert!(rt; next_room(&map).left == 0);
     Ok(())
 }
 
-// Two threads, each with a guard for each of its keys: how many keys are stored. Their keys are in other leaves: while a thread
-// is interrupted in a leaf that it has locked, an insertion into that leaf is busy.
+// Two threads, each with a guard for each of its keys, in leaves of its own: how many keys are stored.
 fn by_two<R: Threads + Sync>(rt: &R, alloc: Global, map: &Pool, first: u64) -> (u64, u64) {
     join(
         rt,
@@ -163,6 +187,8 @@ fn threads_share_rooms(rt: HostRuntime) -> Result<(), Fail> {
     for round in 0..4u64 {
         let first = round.wrapping_mul(100_000);
         assert!(rt; by_two(&rt, rt.alloc(), &map, first) == (TURNS, TURNS));
+        assert!(rt; read_back(&map, first) == TURNS);
+        assert!(rt; read_back(&map, first.wrapping_add(50_000)) == TURNS);
     }
     // (a thread that finds the other at the list goes without now and then)
     assert!(rt; rooms(&map, 1_000) < 100);
