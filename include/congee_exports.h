@@ -186,6 +186,14 @@ void congee_c_live_owners_meet(struct congee_live_owners_handle *handle, struct 
 void congee_c_live_owners_free(struct congee_live_owners_handle handle);
 int32_t congee_c_live_owners_get(struct congee_live_owners_handle *handle, uint64_t key, struct congee_lent *lent);
 void congee_c_live_owners_end(struct congee_live_owners_handle *handle);
+int32_t congee_c_live_owners_lend(struct congee_live_owners_handle *handle, uint64_t ticket, uint64_t *owner);
+int32_t congee_c_live_owners_ceiling(struct congee_live_owners_handle *handle, uint64_t key, struct congee_pair *pair);
+int32_t congee_c_live_owners_floor(struct congee_live_owners_handle *handle, uint64_t key, struct congee_pair *pair);
+int32_t congee_c_live_owners_range_inclusive(struct congee_live_owners_handle *handle, uint64_t start, uint64_t last,
+                                             struct congee_pair *buffer, size_t n, uint64_t *out);
+int32_t congee_c_live_owners_range_descending(struct congee_live_owners_handle *handle, uint64_t start, uint64_t last,
+                                              struct congee_pair *buffer, size_t n, uint64_t *out);
+int32_t congee_c_live_owners_count(struct congee_live_owners_handle *handle, uint64_t *out);
 int32_t congee_c_live_owners_insert(struct congee_live_owners_handle *handle, uint64_t key, uint64_t owner,
                                     struct congee_lent *before);
 int32_t congee_c_live_owners_remove(struct congee_live_owners_handle *handle, uint64_t key, struct congee_lent *before);

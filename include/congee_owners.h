@@ -81,6 +81,10 @@ typedef void congee_owner_retain(void *owner, void *with);
  * made with. */
 typedef void congee_owner_release(void *owner, void *with);
 
+/* A function that is called for a key and its owner. Something else than 0 ends the calls. `with` is what the caller
+ * handed in. */
+typedef int congee_owner_visitor(uint64_t key, void *owner, void *with);
+
 /* What the handles of one map have in common. */
 struct congee_owners_block {
     congee_owner_retain *retain;
@@ -125,6 +129,33 @@ void congee_owners_lend(struct congee_live_owners *map, const struct congee_lent
         *old = (void *)(uintptr_t)before->owner;
     else
         congee_c_live_owners_end(&map->handle);
+}
+
+/* A search upwards for the first key from this one on, or downwards for the first key from this one down. The owner is
+ * lent. The ticket that a search finds may be retired by the time that its owner is asked for: then the call searches
+ * again. */
+static inline
+int congee_owners_find(struct congee_live_owners *map, bool up, uint64_t from, uint64_t *key, void **owner,
+                       uint64_t *ticket) {
+    struct congee_pair at = {0, 0};
+    uint64_t lent = 0;
+    int code = CONGEE_ABSENT;
+    for (int tries = 0; tries < 1000; tries++) {
+        code = up ? congee_c_live_owners_ceiling(&map->handle, from, &at)
+                  : congee_c_live_owners_floor(&map->handle, from, &at);
+        if (code != CONGEE_PRESENT)
+            return code;
+        if (owner && !congee_c_live_owners_lend(&map->handle, at.value, &lent))
+            continue;
+        if (key)
+            *key = at.key;
+        if (owner)
+            *owner = (void *)(uintptr_t)lent;
+        if (ticket)
+            *ticket = at.value;
+        return CONGEE_PRESENT;
+    }
+    return CONGEE_BUSY;
 }
 
 /* -- Maps of owners -- */
@@ -316,6 +347,255 @@ static inline int congee_live_owners_get(struct congee_live_owners *map, uint64_
     while ((code = congee_live_owners_try_get(map, key, owner)) == CONGEE_BUSY)
         CONGEE_YIELD();
     return code;
+}
+
+/* -- Ends and neighbours -- */
+
+/* Finds the least key. Returns CONGEE_PRESENT with the key in *key, the key's owner in *owner and the owner's ticket in
+ * *ticket, or CONGEE_ABSENT if the call found no such key, which leaves the places unchanged. The owner is lent to the
+ * handle, as by congee_live_owners_borrow. The key had that ticket at a moment of the call, and no lesser key was
+ * present throughout the call. Any place may be null. For a null `owner` nothing is lent. Returns CONGEE_BUSY, which
+ * leaves the places unchanged, if other threads were in the way at each of the call's tries. The call takes no lock and
+ * no memory. */
+static inline int congee_live_owners_try_first(struct congee_live_owners *map, uint64_t *key, void **owner,
+                                               uint64_t *ticket) {
+    return congee_owners_find(map, true, 0, key, owner, ticket);
+}
+
+/* Finds the least key. Returns CONGEE_PRESENT with the key in *key, the key's owner in *owner and the owner's ticket in
+ * *ticket, or CONGEE_ABSENT if the call found no such key, which leaves the places unchanged. The owner is lent to the
+ * handle, as by congee_live_owners_borrow. The key had that ticket at a moment of the call, and no lesser key was
+ * present throughout the call. Any place may be null. For a null `owner` nothing is lent. While other threads are in
+ * the way, the call yields and tries again. The call takes no lock and no memory. */
+static inline int congee_live_owners_first(struct congee_live_owners *map, uint64_t *key, void **owner,
+                                           uint64_t *ticket) {
+    int code;
+    while ((code = congee_live_owners_try_first(map, key, owner, ticket)) == CONGEE_BUSY)
+        CONGEE_YIELD();
+    return code;
+}
+
+/* Finds the least key that is at least `key`. Returns CONGEE_PRESENT with the key in *found, the key's owner in *owner
+ * and the owner's ticket in *ticket, or CONGEE_ABSENT if the call found no such key, which leaves the places unchanged.
+ * The owner is lent to the handle, as by congee_live_owners_borrow. The key had that ticket at a moment of the call,
+ * and no key between the two was present throughout the call. Any place may be null. For a null `owner` nothing is
+ * lent. Returns CONGEE_BUSY, which leaves the places unchanged, if other threads were in the way at each of the call's
+ * tries. The call takes no lock and no memory. */
+static inline int congee_live_owners_try_ceiling(struct congee_live_owners *map, uint64_t key, uint64_t *found,
+                                                 void **owner, uint64_t *ticket) {
+    return congee_owners_find(map, true, key, found, owner, ticket);
+}
+
+/* Finds the least key that is at least `key`. Returns CONGEE_PRESENT with the key in *found, the key's owner in *owner
+ * and the owner's ticket in *ticket, or CONGEE_ABSENT if the call found no such key, which leaves the places unchanged.
+ * The owner is lent to the handle, as by congee_live_owners_borrow. The key had that ticket at a moment of the call,
+ * and no key between the two was present throughout the call. Any place may be null. For a null `owner` nothing is
+ * lent. While other threads are in the way, the call yields and tries again. The call takes no lock and no memory. */
+static inline int congee_live_owners_ceiling(struct congee_live_owners *map, uint64_t key, uint64_t *found,
+                                             void **owner, uint64_t *ticket) {
+    int code;
+    while ((code = congee_live_owners_try_ceiling(map, key, found, owner, ticket)) == CONGEE_BUSY)
+        CONGEE_YIELD();
+    return code;
+}
+
+/* Finds the least key above `key`. Returns CONGEE_PRESENT with the key in *found, the key's owner in *owner and the
+ * owner's ticket in *ticket, or CONGEE_ABSENT if the call found no such key, which leaves the places unchanged. The
+ * owner is lent to the handle, as by congee_live_owners_borrow. The key had that ticket at a moment of the call, and no
+ * key between the two was present throughout the call. Any place may be null. For a null `owner` nothing is lent.
+ * Returns CONGEE_BUSY, which leaves the places unchanged, if other threads were in the way at each of the call's tries.
+ * The call takes no lock and no memory. */
+static inline int congee_live_owners_try_above(struct congee_live_owners *map, uint64_t key, uint64_t *found,
+                                               void **owner, uint64_t *ticket) {
+    return key == UINT64_MAX ? CONGEE_ABSENT : congee_owners_find(map, true, key + 1, found, owner, ticket);
+}
+
+/* Finds the least key above `key`. Returns CONGEE_PRESENT with the key in *found, the key's owner in *owner and the
+ * owner's ticket in *ticket, or CONGEE_ABSENT if the call found no such key, which leaves the places unchanged. The
+ * owner is lent to the handle, as by congee_live_owners_borrow. The key had that ticket at a moment of the call, and no
+ * key between the two was present throughout the call. Any place may be null. For a null `owner` nothing is lent. While
+ * other threads are in the way, the call yields and tries again. The call takes no lock and no memory. */
+static inline int congee_live_owners_above(struct congee_live_owners *map, uint64_t key, uint64_t *found, void **owner,
+                                           uint64_t *ticket) {
+    int code;
+    while ((code = congee_live_owners_try_above(map, key, found, owner, ticket)) == CONGEE_BUSY)
+        CONGEE_YIELD();
+    return code;
+}
+
+/* Finds the greatest key. Returns CONGEE_PRESENT with the key in *key, the key's owner in *owner and the owner's ticket
+ * in *ticket, or CONGEE_ABSENT if the call found no such key, which leaves the places unchanged. The owner is lent to
+ * the handle, as by congee_live_owners_borrow. The key had that ticket at a moment of the call, and no greater key was
+ * present throughout the call. Any place may be null. For a null `owner` nothing is lent. Returns CONGEE_BUSY, which
+ * leaves the places unchanged, if other threads were in the way at each of the call's tries. The call takes no lock and
+ * no memory. */
+static inline int congee_live_owners_try_last(struct congee_live_owners *map, uint64_t *key, void **owner,
+                                              uint64_t *ticket) {
+    return congee_owners_find(map, false, UINT64_MAX, key, owner, ticket);
+}
+
+/* Finds the greatest key. Returns CONGEE_PRESENT with the key in *key, the key's owner in *owner and the owner's ticket
+ * in *ticket, or CONGEE_ABSENT if the call found no such key, which leaves the places unchanged. The owner is lent to
+ * the handle, as by congee_live_owners_borrow. The key had that ticket at a moment of the call, and no greater key was
+ * present throughout the call. Any place may be null. For a null `owner` nothing is lent. While other threads are in
+ * the way, the call yields and tries again. The call takes no lock and no memory. */
+static inline int congee_live_owners_last(struct congee_live_owners *map, uint64_t *key, void **owner,
+                                          uint64_t *ticket) {
+    int code;
+    while ((code = congee_live_owners_try_last(map, key, owner, ticket)) == CONGEE_BUSY)
+        CONGEE_YIELD();
+    return code;
+}
+
+/* Finds the greatest key that is at most `key`. Returns CONGEE_PRESENT with the key in *found, the key's owner in
+ * *owner and the owner's ticket in *ticket, or CONGEE_ABSENT if the call found no such key, which leaves the places
+ * unchanged. The owner is lent to the handle, as by congee_live_owners_borrow. The key had that ticket at a moment of
+ * the call, and no key between the two was present throughout the call. Any place may be null. For a null `owner`
+ * nothing is lent. Returns CONGEE_BUSY, which leaves the places unchanged, if other threads were in the way at each of
+ * the call's tries. The call takes no lock and no memory. */
+static inline int congee_live_owners_try_floor(struct congee_live_owners *map, uint64_t key, uint64_t *found,
+                                               void **owner, uint64_t *ticket) {
+    return congee_owners_find(map, false, key, found, owner, ticket);
+}
+
+/* Finds the greatest key that is at most `key`. Returns CONGEE_PRESENT with the key in *found, the key's owner in
+ * *owner and the owner's ticket in *ticket, or CONGEE_ABSENT if the call found no such key, which leaves the places
+ * unchanged. The owner is lent to the handle, as by congee_live_owners_borrow. The key had that ticket at a moment of
+ * the call, and no key between the two was present throughout the call. Any place may be null. For a null `owner`
+ * nothing is lent. While other threads are in the way, the call yields and tries again. The call takes no lock and no
+ * memory. */
+static inline int congee_live_owners_floor(struct congee_live_owners *map, uint64_t key, uint64_t *found, void **owner,
+                                           uint64_t *ticket) {
+    int code;
+    while ((code = congee_live_owners_try_floor(map, key, found, owner, ticket)) == CONGEE_BUSY)
+        CONGEE_YIELD();
+    return code;
+}
+
+/* Finds the greatest key below `key`. Returns CONGEE_PRESENT with the key in *found, the key's owner in *owner and the
+ * owner's ticket in *ticket, or CONGEE_ABSENT if the call found no such key, which leaves the places unchanged. The
+ * owner is lent to the handle, as by congee_live_owners_borrow. The key had that ticket at a moment of the call, and no
+ * key between the two was present throughout the call. Any place may be null. For a null `owner` nothing is lent.
+ * Returns CONGEE_BUSY, which leaves the places unchanged, if other threads were in the way at each of the call's tries.
+ * The call takes no lock and no memory. */
+static inline int congee_live_owners_try_below(struct congee_live_owners *map, uint64_t key, uint64_t *found,
+                                               void **owner, uint64_t *ticket) {
+    return key == 0 ? CONGEE_ABSENT : congee_owners_find(map, false, key - 1, found, owner, ticket);
+}
+
+/* Finds the greatest key below `key`. Returns CONGEE_PRESENT with the key in *found, the key's owner in *owner and the
+ * owner's ticket in *ticket, or CONGEE_ABSENT if the call found no such key, which leaves the places unchanged. The
+ * owner is lent to the handle, as by congee_live_owners_borrow. The key had that ticket at a moment of the call, and no
+ * key between the two was present throughout the call. Any place may be null. For a null `owner` nothing is lent. While
+ * other threads are in the way, the call yields and tries again. The call takes no lock and no memory. */
+static inline int congee_live_owners_below(struct congee_live_owners *map, uint64_t key, uint64_t *found, void **owner,
+                                           uint64_t *ticket) {
+    int code;
+    while ((code = congee_live_owners_try_below(map, key, found, owner, ticket)) == CONGEE_BUSY)
+        CONGEE_YIELD();
+    return code;
+}
+
+/* -- Many keys -- */
+
+/* (the pages of the calls below) */
+static inline
+size_t congee_owners_page(struct congee_live_owners *map, bool up, uint64_t start, uint64_t last,
+                          struct congee_pair *page) {
+    uint64_t n = 0;
+    while ((up ? congee_c_live_owners_range_inclusive(&map->handle, start, last, page, 64, &n)
+               : congee_c_live_owners_range_descending(&map->handle, start, last, page, 64, &n)) == CONGEE_BUSY)
+        CONGEE_YIELD();
+    return n;
+}
+
+/* (one key of a page: its owner is lent while f runs. A key whose ticket is retired by then is looked up) */
+static inline
+int congee_owners_visit(struct congee_live_owners *map, struct congee_pair at, congee_owner_visitor *f, void *with) {
+    uint64_t lent = 0;
+    void *owner = NULL;
+    int code = 0;
+    if (congee_c_live_owners_lend(&map->handle, at.value, &lent))
+        owner = (void *)(uintptr_t)lent;
+    else if (congee_live_owners_borrow(map, at.key, &owner, NULL) != CONGEE_PRESENT)
+        return 0;
+    code = f(at.key, owner, with);
+    congee_live_owners_return(map);
+    return code;
+}
+
+/* Calls f(key, owner, with) for each key with start <= key <= last, keys ascending, until a call returns something else
+ * than 0. Returns what the last call of f returned, or 0 without a call. Reads pages of 64 keys. So each key is read at
+ * a moment of its own, and each key that is present throughout the call is among them. Other keys may be among them,
+ * too.
+ *
+ * The owner is lent to the handle while f runs, until f itself calls the map by this handle. Afterwards the handle has
+ * no loan. Nothing is locked while f runs. While other threads are in the way, the call yields and tries again. The
+ * call takes no memory. */
+static inline int congee_live_owners_each(struct congee_live_owners *map, uint64_t start, uint64_t last,
+                                          congee_owner_visitor *f, void *with) {
+    struct congee_pair page[64] = {{0, 0}};
+    size_t n;
+    while ((n = congee_owners_page(map, true, start, last, page)) > 0) {
+        for (size_t i = 0; i < n; i++) {
+            int code = congee_owners_visit(map, page[i], f, with);
+            if (code != 0)
+                return code;
+        }
+        if (n < 64 || page[63].key == last)
+            return 0;
+        start = page[63].key + 1;
+    }
+    return 0;
+}
+
+/* Calls f(key, owner, with) for each key with start <= key <= last, keys descending, until a call returns something
+ * else than 0. Returns what the last call of f returned, or 0 without a call. Reads pages of 64 keys. So each key is
+ * read at a moment of its own, and each key that is present throughout the call is among them. Other keys may be among
+ * them, too.
+ *
+ * The owner is lent to the handle while f runs, until f itself calls the map by this handle. Afterwards the handle has
+ * no loan. Nothing is locked while f runs. While other threads are in the way, the call yields and tries again. The
+ * call takes no memory. */
+static inline int congee_live_owners_each_descending(struct congee_live_owners *map, uint64_t start, uint64_t last,
+                                                     congee_owner_visitor *f, void *with) {
+    struct congee_pair page[64] = {{0, 0}};
+    size_t n;
+    while ((n = congee_owners_page(map, false, start, last, page)) > 0) {
+        for (size_t i = 0; i < n; i++) {
+            int code = congee_owners_visit(map, page[i], f, with);
+            if (code != 0)
+                return code;
+        }
+        if (n < 64 || page[63].key == start)
+            return 0;
+        last = page[63].key - 1;
+    }
+    return 0;
+}
+
+/* Writes to *count how many keys the map has, and returns CONGEE_DONE. The count is exact where no other thread writes.
+ * Otherwise each key was counted or not, as it was at a moment of the call. Returns CONGEE_BUSY, which leaves *count
+ * unchanged, if other threads were in the way at each of the call's tries. The call reads all nodes that have tickets,
+ * and takes no lock and no memory. `count` isn't null. */
+static inline int congee_live_owners_try_count(struct congee_live_owners *map, uint64_t *count) {
+    return congee_c_live_owners_count(&map->handle, count);
+}
+
+/* Returns how many keys the map has. The count is exact where no other thread writes. Otherwise each key was counted or
+ * not, as it was at a moment of the call. The call reads all nodes that have tickets, and takes no lock and no memory.
+ * While other threads are in the way, the call yields and tries again. */
+static inline uint64_t congee_live_owners_count(struct congee_live_owners *map) {
+    uint64_t count = 0;
+    while (congee_live_owners_try_count(map, &count) == CONGEE_BUSY)
+        CONGEE_YIELD();
+    return count;
+}
+
+/* Returns whether the map has no key, by a search for the first key. With true no key was present throughout the call.
+ * The call takes no lock and no memory. While other threads are in the way, the call yields and tries again. */
+static inline bool congee_live_owners_is_empty(struct congee_live_owners *map) {
+    return congee_live_owners_first(map, NULL, NULL, NULL) == CONGEE_ABSENT;
 }
 
 /* -- Owners that come back -- */

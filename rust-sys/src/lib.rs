@@ -439,6 +439,38 @@ extern "C" {
         lent: *mut Lent,
     ) -> i32;
     pub fn congee_c_live_owners_end(handle: *mut LiveOwnersHandle);
+    pub fn congee_c_live_owners_lend(
+        handle: *mut LiveOwnersHandle,
+        ticket: u64,
+        owner: *mut u64,
+    ) -> i32;
+    pub fn congee_c_live_owners_ceiling(
+        handle: *mut LiveOwnersHandle,
+        key: u64,
+        pair: *mut Pair,
+    ) -> i32;
+    pub fn congee_c_live_owners_floor(
+        handle: *mut LiveOwnersHandle,
+        key: u64,
+        pair: *mut Pair,
+    ) -> i32;
+    pub fn congee_c_live_owners_range_inclusive(
+        handle: *mut LiveOwnersHandle,
+        start: u64,
+        last: u64,
+        buffer: *mut Pair,
+        n: usize,
+        out: *mut u64,
+    ) -> i32;
+    pub fn congee_c_live_owners_range_descending(
+        handle: *mut LiveOwnersHandle,
+        start: u64,
+        last: u64,
+        buffer: *mut Pair,
+        n: usize,
+        out: *mut u64,
+    ) -> i32;
+    pub fn congee_c_live_owners_count(handle: *mut LiveOwnersHandle, out: *mut u64) -> i32;
     pub fn congee_c_live_owners_insert(
         handle: *mut LiveOwnersHandle,
         key: u64,

@@ -117,7 +117,7 @@ use proved_congee_sys as sys;
 pub use frozen::{Frozen, Readers};
 pub use live::{LiveGuard, LiveMap, LiveNote};
 pub use live_owners::{
-    ExchangeError, LiveArcGuard, LiveArcMap, LiveBoxGuard, LiveBoxMap, LiveOwnerGuard,
+    Arcs, ExchangeError, LiveArcGuard, LiveArcMap, LiveBoxGuard, LiveBoxMap, LiveOwnerGuard,
     LiveOwnerMap, Loan, PinError, Pointer, Refused, Ticket,
 };
 pub use map::{ExtendError, FreezeError, Map};

@@ -11,6 +11,10 @@ use std::ops::{Deref, RangeInclusive};
 use std::sync::Arc;
 use std::thread;
 
+mod in_order;
+
+pub use in_order::Arcs;
+
 mod sealed {
     pub trait Sealed {}
     impl<T> Sealed for std::sync::Arc<T> {}
@@ -225,7 +229,7 @@ impl<P: Pointer> LiveOwnerMap<P> {
 
     /// Makes an empty map whose nodes take at most so many bytes together, as [`LiveMap::with_limit`] counts them. The
     /// places of the pointers lie beside the nodes, and don't count. Returns [`OutOfMemory`] if there is no memory, or the
-    /// limit is below the first segment's 8,192 bytes.
+    /// limit is below the first segment's 4,096 bytes.
     ///
     /// ```
     /// use proved_congee::LiveArcMap;

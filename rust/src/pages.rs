@@ -13,6 +13,12 @@ use std::ops::{Bound, RangeBounds};
 pub(crate) const PAGE: usize = 64;
 const FIRST_PAGE: usize = 4;
 
+/// Pages of a map of objects: keys from `start` to `last`, each with its ticket, ascending or descending.
+pub(crate) trait ReadTickets {
+    fn read_tickets(&self, is_ascending: bool, start: u64, last: u64, buffer: &mut [Pair])
+        -> usize;
+}
+
 /// What pages are read from.
 #[derive(Clone, Copy)]
 pub(crate) enum Source<'a> {
@@ -20,6 +26,7 @@ pub(crate) enum Source<'a> {
     Frozen(&'a Frozen),
     Shared(&'a Guard),
     Live(&'a LiveGuard),
+    Tickets(&'a dyn ReadTickets),
 }
 
 impl Source<'_> {
@@ -29,6 +36,7 @@ impl Source<'_> {
             Source::Frozen(frozen) => frozen.read_range_inclusive(start, last, buffer),
             Source::Shared(guard) => guard.read_range_inclusive(start, last, buffer),
             Source::Live(guard) => guard.read_range_inclusive(start, last, buffer),
+            Source::Tickets(guard) => guard.read_tickets(true, start, last, buffer),
         }
     }
 
@@ -38,6 +46,7 @@ impl Source<'_> {
             Source::Frozen(frozen) => frozen.read_range_descending(start, last, buffer),
             Source::Shared(guard) => guard.read_range_descending(start, last, buffer),
             Source::Live(guard) => guard.read_range_descending(start, last, buffer),
+            Source::Tickets(guard) => guard.read_tickets(false, start, last, buffer),
         }
     }
 }
@@ -90,7 +99,7 @@ impl Page {
 
 /// What is left of a range: what was read at its two ends, and the keys between these.
 #[derive(Clone)]
-struct Cursor {
+pub(crate) struct Cursor {
     front: Page,
     /// (none until the end is asked for)
     back: Option<Page>,
@@ -114,7 +123,7 @@ pub(crate) fn ends(bounds: impl RangeBounds<u64>) -> Option<(u64, u64)> {
 }
 
 impl Cursor {
-    fn of(bounds: impl RangeBounds<u64>) -> Cursor {
+    pub(crate) fn of(bounds: impl RangeBounds<u64>) -> Cursor {
         Cursor {
             front: Page::empty(),
             back: None,
@@ -122,7 +131,7 @@ impl Cursor {
         }
     }
 
-    fn next(&mut self, source: Source<'_>) -> Option<Pair> {
+    pub(crate) fn next(&mut self, source: Source<'_>) -> Option<Pair> {
         if self.front.len() == 0 {
             if let Some((start, last)) = self.unread.take() {
                 self.unread = self
@@ -137,7 +146,7 @@ impl Cursor {
             .or_else(|| self.back.as_mut()?.take_last())
     }
 
-    fn next_back(&mut self, source: Source<'_>) -> Option<Pair> {
+    pub(crate) fn next_back(&mut self, source: Source<'_>) -> Option<Pair> {
         let back = self.back.get_or_insert_with(Page::empty);
         if back.len() == 0 {
             if let Some((start, last)) = self.unread.take() {

@@ -1,6 +1,6 @@
 /* Answers of the library that come seldom, or never: a map of owners is busy, a refused owner is kept for a while, an owner that
- * left the map can't be lent. A function in the library's place gives each of them, by each call, once. Whatever the answer, an
- * object has as many references in the end as there are holders of it. */
+ * left the map can't be lent, the ticket of a search is retired. A function in the library's place gives each of them, by each
+ * call, once. Whatever the answer, an object has as many references in the end as there are holders of it. */
 #include "congee_exports.h"
 
 /* What the next call that changes a key answers, how often it does, and the owner that the library keeps then. */
@@ -10,6 +10,9 @@ static uint64_t kept;
 
 /* How often the next look-up and the next call of `drain` are busy. */
 static int busy_looks, busy_drains;
+
+/* How often the next page or count is busy, how often the next tickets are retired, and how many searches were made. */
+static int busy_pages, retired_tickets, searches;
 
 /* Whether a call is answered here. The library keeps the owner, but where it is busy. */
 static bool is_answered(uint64_t owner) {
@@ -23,6 +26,34 @@ static bool is_answered(uint64_t owner) {
 
 static int32_t given_get(struct congee_live_owners_handle *map, uint64_t key, struct congee_lent *lent) {
     return busy_looks > 0 && busy_looks-- ? -2 : congee_c_live_owners_get(map, key, lent);
+}
+
+static int32_t given_lend(struct congee_live_owners_handle *map, uint64_t ticket, uint64_t *owner) {
+    return retired_tickets > 0 && retired_tickets-- ? 0 : congee_c_live_owners_lend(map, ticket, owner);
+}
+
+static int32_t given_ceiling(struct congee_live_owners_handle *map, uint64_t key, struct congee_pair *pair) {
+    searches++;
+    return busy_looks > 0 && busy_looks-- ? -2 : congee_c_live_owners_ceiling(map, key, pair);
+}
+
+static int32_t given_floor(struct congee_live_owners_handle *map, uint64_t key, struct congee_pair *pair) {
+    searches++;
+    return busy_looks > 0 && busy_looks-- ? -2 : congee_c_live_owners_floor(map, key, pair);
+}
+
+static int32_t given_page(struct congee_live_owners_handle *map, uint64_t start, uint64_t last, struct congee_pair *page, size_t n,
+                          uint64_t *out) {
+    return busy_pages > 0 && busy_pages-- ? -2 : congee_c_live_owners_range_inclusive(map, start, last, page, n, out);
+}
+
+static int32_t given_page_down(struct congee_live_owners_handle *map, uint64_t start, uint64_t last, struct congee_pair *page,
+                               size_t n, uint64_t *out) {
+    return busy_pages > 0 && busy_pages-- ? -2 : congee_c_live_owners_range_descending(map, start, last, page, n, out);
+}
+
+static int32_t given_count(struct congee_live_owners_handle *map, uint64_t *out) {
+    return busy_pages > 0 && busy_pages-- ? -2 : congee_c_live_owners_count(map, out);
 }
 
 static int32_t given_insert(struct congee_live_owners_handle *map, uint64_t key, uint64_t owner, struct congee_lent *before) {
@@ -76,6 +107,12 @@ static int32_t given_drain(struct congee_live_owners_handle *map, struct congee_
 }
 
 #define congee_c_live_owners_get given_get
+#define congee_c_live_owners_lend given_lend
+#define congee_c_live_owners_ceiling given_ceiling
+#define congee_c_live_owners_floor given_floor
+#define congee_c_live_owners_range_inclusive given_page
+#define congee_c_live_owners_range_descending given_page_down
+#define congee_c_live_owners_count given_count
 #define congee_c_live_owners_insert given_insert
 #define congee_c_live_owners_remove given_remove
 #define congee_c_live_owners_compare_exchange given_exchange
@@ -241,6 +278,80 @@ static void call_busy(void) {
     need(busy_drains == 0 && objects[1].references == 0, "the end of a map waits");
 }
 
+/* -- Keys in order -- */
+
+static int counts(uint64_t key, void *owner, void *with) {
+    need(key == 7 && owner == &objects[0] && objects[0].references == 1, "the key and its owner");
+    ++*(int *)with;
+    return 0;
+}
+
+/* Searches upwards and downwards, whose tickets are retired for a while, or which are busy. */
+static void call_searches(struct congee_live_owners *map, bool up) {
+    int (*tries)(struct congee_live_owners *, uint64_t *, void **, uint64_t *) =
+        up ? congee_live_owners_try_first : congee_live_owners_try_last;
+    int (*waits)(struct congee_live_owners *, uint64_t *, void **, uint64_t *) =
+        up ? congee_live_owners_first : congee_live_owners_last;
+    uint64_t key = 99, ticket = 99;
+    void *owner = NULL;
+    searches = 0;
+    retired_tickets = 2;
+    need(tries(map, &key, &owner, &ticket) == CONGEE_PRESENT && key == 7 && owner == &objects[0], "a search that is made again");
+    need(searches == 3 && retired_tickets == 0, "after each ticket that is retired");
+    key = ticket = 99;
+    owner = NULL;
+    retired_tickets = 1000;
+    need(tries(map, &key, &owner, &ticket) == CONGEE_BUSY && key == 99 && !owner && ticket == 99, "a search that gives up");
+    need(retired_tickets == 0 && searches == 1003, "after a thousand tickets");
+    retired_tickets = 1001;
+    need(waits(map, &key, &owner, NULL) == CONGEE_PRESENT && key == 7 && owner == &objects[0], "a search that goes on");
+    need(searches == 2005 && retired_tickets == 0, "after more of them");
+    retired_tickets = 1;
+    need(tries(map, &key, NULL, &ticket) == CONGEE_PRESENT && retired_tickets == 1, "a search that lends nothing");
+    retired_tickets = 0;
+    key = ticket = 99;
+    owner = NULL;
+    busy_looks = 1;
+    need(tries(map, &key, &owner, &ticket) == CONGEE_BUSY && key == 99 && !owner && ticket == 99, "a busy search");
+    busy_looks = 3;
+    need(waits(map, &key, &owner, &ticket) == CONGEE_PRESENT && busy_looks == 0 && key == 7, "a search waits");
+    congee_live_owners_return(map);
+}
+
+static void call_pages(struct congee_live_owners *map) {
+    int (*each[])(struct congee_live_owners *, uint64_t, uint64_t, congee_owner_visitor *, void *) = {
+        congee_live_owners_each, congee_live_owners_each_descending};
+    uint64_t number = 99;
+    for (int i = 0; i < 2; i++) {
+        int visited = 0;
+        busy_pages = 3;
+        need(each[i](map, 0, UINT64_MAX, counts, &visited) == 0 && visited == 1 && busy_pages == 0, "a page waits");
+        retired_tickets = 1;
+        need(each[i](map, 0, UINT64_MAX, counts, &visited) == 0 && visited == 2, "a key of a retired ticket is looked up");
+        retired_tickets = 1;
+        busy_looks = 3;
+        need(each[i](map, 0, UINT64_MAX, counts, &visited) == 0 && visited == 3 && busy_looks == 0, "and the look-up waits");
+    }
+    busy_pages = 1;
+    need(congee_live_owners_try_count(map, &number) == CONGEE_BUSY && number == 99, "a busy count");
+    busy_pages = 3;
+    need(congee_live_owners_count(map) == 1 && busy_pages == 0, "a count waits");
+    busy_looks = 3;
+    need(!congee_live_owners_is_empty(map) && busy_looks == 0, "is_empty waits");
+}
+
+static void call_in_order(void) {
+    struct congee_live_owners *map;
+    need(congee_live_owners_new(&map, retain, release, NULL) == CONGEE_DONE, "a map");
+    objects[0].references = 1;
+    need(congee_live_owners_insert(map, 7, &objects[0], NULL) == CONGEE_ABSENT, "a key");
+    call_searches(map, true);
+    call_searches(map, false);
+    call_pages(map);
+    congee_live_owners_free(map);
+    need(objects[0].references == 0, "no reference is left");
+}
+
 int main(void) {
     int tried = 0;
     for (size_t i = 0; i < sizeof rows / sizeof *rows; i++)
@@ -254,6 +365,7 @@ int main(void) {
     call_kept_at_the_end(false);
     call_not_lent();
     call_busy();
+    call_in_order();
     printf("%d answers, each object with its references\n", tried);
     return 0;
 }

@@ -158,6 +158,31 @@ static void hold(struct worker *worker, uint64_t place, uint64_t at, bool waits)
     worker->held[at] = owner;
 }
 
+static uint64_t place_of(uint64_t key) {
+    uint64_t place = 0;
+    while (place < KEYS && key_of(place) != key)
+        place++;
+    need(place < KEYS, "a key that was inserted");
+    return place;
+}
+
+static int visits(uint64_t key, void *owner, void *with) {
+    reads(with, place_of(key), owner, true);
+    return 0;
+}
+
+/* The next key from this one on, or the one before. */
+static void search(struct worker *worker, uint64_t key, bool up, bool waits) {
+    void *owner = NULL;
+    uint64_t found = 0;
+    int code = up ? (waits ? congee_live_owners_ceiling : congee_live_owners_try_ceiling)(worker->map, key, &found, &owner, NULL)
+                  : (waits ? congee_live_owners_floor : congee_live_owners_try_floor)(worker->map, key, &found, &owner, NULL);
+    if (code != CONGEE_PRESENT)
+        return;
+    need(up ? found >= key : found <= key, "a key in the direction of the search");
+    reads(worker, place_of(found), owner, true);
+}
+
 static void call(struct worker *worker, uint64_t place, uint64_t kind, uint64_t at) {
     struct congee_live_owners *map = worker->map;
     uint64_t key = key_of(place);
@@ -195,6 +220,17 @@ static void call(struct worker *worker, uint64_t place, uint64_t kind, uint64_t 
         if (other)
             reads(worker, place, other, true);
         break;
+    case 9:
+        search(worker, key, at % 2, at < 2);
+        break;
+    case 10:
+        if (at == 0)
+            congee_live_owners_each(map, 0, UINT64_MAX, visits, worker);
+        else if (at == 1)
+            congee_live_owners_each_descending(map, 0, key, visits, worker);
+        else
+            need(congee_live_owners_count(map) <= KEYS, "a count");
+        break;
     default:
         if (congee_live_owners_borrow(map, key, &other, NULL) != CONGEE_PRESENT)
             return;
@@ -212,7 +248,7 @@ static void *churn(void *at) {
     struct worker *worker = at;
     uint64_t seed = first_seed * MOST + worker->id;
     for (uint64_t i = 0; i < turns; i++) {
-        uint64_t kind = next(&seed) % 12, place = next(&seed) % KEYS;
+        uint64_t kind = next(&seed) % 14, place = next(&seed) % KEYS;
         call(worker, place, kind, next(&seed) % HELD);
     }
     congee_live_owners_free(worker->map);

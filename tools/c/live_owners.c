@@ -5,6 +5,9 @@
  *   - owners that left the map wait until there are 64 of them
  *   - a map has 64 handles at most, and room again after one was freed
  *   - the last handle, whichever it is, releases all that is left
+ *   - a table of searches in both forms, with places and without, whose owner is lent
+ *   - keys are visited in both directions. A key that is removed before its turn is passed over, and one that is replaced before
+ *     has its new owner
  *   - a map within a limit refuses owners, which are still the caller's
  *   - a map without `retain` lends alone */
 #include "congee.h"
@@ -277,6 +280,159 @@ static void call_lent_by_changes(void) {
     none_is_left("what changes lend");
 }
 
+/* -- Keys in order -- */
+
+/* A search: what it returns, and the place of the key that it finds. */
+enum search { FIRST, CEILING, ABOVE, LAST, FLOOR, BELOW };
+
+static const uint64_t stored[] = {5, 255, 256, 70000, UINT64_MAX};
+
+static const struct find {
+    enum search search;
+    uint64_t key;
+    int found;
+} finds[] = {
+    {FIRST, 0, 0},       {LAST, 0, 4},        {CEILING, 0, 0},     {CEILING, 5, 0},          {CEILING, 6, 1},
+    {CEILING, 255, 1},   {CEILING, 257, 3},   {CEILING, 70001, 4}, {CEILING, UINT64_MAX, 4}, {ABOVE, 0, 0},
+    {ABOVE, 5, 1},       {ABOVE, 255, 2},     {ABOVE, 256, 3},     {ABOVE, 70000, 4},        {ABOVE, UINT64_MAX, NONE},
+    {FLOOR, 0, NONE},    {FLOOR, 4, NONE},    {FLOOR, 5, 0},       {FLOOR, 254, 0},          {FLOOR, 69999, 2},
+    {FLOOR, 1ull << 40, 3}, {FLOOR, UINT64_MAX, 4}, {BELOW, 0, NONE}, {BELOW, 5, NONE},      {BELOW, 6, 0},
+    {BELOW, 256, 1},     {BELOW, 70000, 2},   {BELOW, UINT64_MAX, 3},
+};
+
+static int search(struct congee_live_owners *map, const struct find *row, bool waits, uint64_t *key, void **owner,
+                  uint64_t *ticket) {
+    switch (row->search) {
+    case FIRST:
+        return (waits ? congee_live_owners_first : congee_live_owners_try_first)(map, key, owner, ticket);
+    case LAST:
+        return (waits ? congee_live_owners_last : congee_live_owners_try_last)(map, key, owner, ticket);
+    case CEILING:
+        return (waits ? congee_live_owners_ceiling : congee_live_owners_try_ceiling)(map, row->key, key, owner, ticket);
+    case ABOVE:
+        return (waits ? congee_live_owners_above : congee_live_owners_try_above)(map, row->key, key, owner, ticket);
+    case FLOOR:
+        return (waits ? congee_live_owners_floor : congee_live_owners_try_floor)(map, row->key, key, owner, ticket);
+    default:
+        return (waits ? congee_live_owners_below : congee_live_owners_try_below)(map, row->key, key, owner, ticket);
+    }
+}
+
+static void call_searches(bool waits) {
+    struct calls calls = {0, 0};
+    struct congee_live_owners *map = made(&calls), *other;
+    uint64_t key = 77, ticket = 88, its = 0, count = 99;
+    void *owner = &calls;
+    need(congee_live_owners_another(map, &other) == CONGEE_DONE, "another handle");
+    need(search(map, &finds[0], waits, &key, &owner, &ticket) == CONGEE_ABSENT && key == 77 && owner == &calls && ticket == 88,
+         "the first key of an empty map");
+    need(search(map, &finds[1], waits, &key, &owner, &ticket) == CONGEE_ABSENT && key == 77 && owner == &calls && ticket == 88,
+         "the last key of an empty map");
+    need(congee_live_owners_is_empty(map) && congee_live_owners_count(map) == 0, "an empty map");
+    for (uint64_t i = 0; i < sizeof stored / sizeof *stored; i++)
+        need(congee_live_owners_insert(map, stored[i], fresh(i), NULL) == CONGEE_ABSENT, "a key");
+    need(!congee_live_owners_is_empty(map) && congee_live_owners_count(map) == 5, "five keys");
+    need(congee_live_owners_try_count(map, &count) == CONGEE_DONE && count == 5, "five keys at once");
+    for (size_t i = 0; i < sizeof finds / sizeof *finds; i++) {
+        const struct find *row = &finds[i];
+        key = 77, ticket = 88, owner = &calls;
+        need(search(map, row, waits, NULL, NULL, NULL) == (row->found != NONE), "a search without places");
+        int code = search(map, row, waits, &key, &owner, &ticket);
+        if (row->found == NONE) {
+            need(code == CONGEE_ABSENT && key == 77 && owner == &calls && ticket == 88, "a search that finds none");
+            continue;
+        }
+        if (code != CONGEE_PRESENT || key != stored[row->found] || owner != &objects[row->found]) {
+            fprintf(stderr, "live_owners: wrong: search %zu returns %d, with key %" PRIu64 "\n", i, code, key);
+            exit(1);
+        }
+        need(congee_live_owners_borrow(other, key, NULL, &its) == CONGEE_PRESENT && its == ticket, "the key's ticket");
+        /* (its owner is lent: another handle removes the key) */
+        need(congee_live_owners_remove(other, key, NULL) == CONGEE_PRESENT, "a removal beside a loan");
+        need(congee_live_owners_reclaim(other) == 0 && objects[row->found].references == 1, "a lent owner isn't released");
+        congee_live_owners_return(map);
+        need(congee_live_owners_reclaim(other) == 1 && objects[row->found].references == 0, "and comes back");
+        need(congee_live_owners_insert(map, key, fresh((uint64_t)row->found), NULL) == CONGEE_ABSENT, "the key again");
+        /* (nothing is lent without a place for it) */
+        need(search(map, row, waits, &key, NULL, &ticket) == CONGEE_PRESENT && ticket != its, "another ticket");
+        need(congee_live_owners_remove(other, key, NULL) == CONGEE_PRESENT && congee_live_owners_reclaim(other) == 1,
+             "an owner without a loan");
+        need(congee_live_owners_insert(map, key, fresh((uint64_t)row->found), NULL) == CONGEE_ABSENT, "the key once more");
+    }
+    congee_live_owners_free(other);
+    congee_live_owners_free(map);
+    none_is_left("searches");
+}
+
+/* What a visitor has been called with, and what it does. */
+struct visit {
+    struct congee_live_owners *map, *other;
+    uint64_t keys[MANY], visited, ends_at;
+    bool changes;
+};
+
+static int visits(uint64_t key, void *owner, void *with) {
+    struct visit *visit = with;
+    struct object *object = owner;
+    need(object->references > 0 && object->number == key / 3 % 1000, "a key's owner");
+    visit->keys[visit->visited++] = key;
+    if (visit->changes && key % 30 == 0) {
+        /* the next key goes, the one after it has another owner, and this one goes while its owner is lent */
+        need(congee_live_owners_remove(visit->other, key + 3, NULL) == CONGEE_PRESENT, "the next key goes");
+        need(congee_live_owners_insert(visit->other, key + 6, fresh((key + 6) / 3), NULL) == CONGEE_PRESENT, "a replacement");
+        need(congee_live_owners_remove(visit->other, key, NULL) == CONGEE_PRESENT, "this key goes");
+        congee_live_owners_reclaim(visit->other);
+        need(object->references == 1, "a lent owner isn't released");
+    }
+    return key == visit->ends_at ? 41 : 0;
+}
+
+static void call_visits(void) {
+    enum { COUNT = 300 };
+    static struct visit visit;
+    struct calls calls = {0, 0};
+    struct congee_live_owners *map = made(&calls), *other;
+    need(congee_live_owners_another(map, &other) == CONGEE_DONE, "another handle");
+    visit = (struct visit){.map = map, .other = other, .ends_at = UINT64_MAX};
+    need(congee_live_owners_each(map, 0, UINT64_MAX, visits, &visit) == 0 && visit.visited == 0, "no key upwards");
+    need(congee_live_owners_each_descending(map, 0, UINT64_MAX, visits, &visit) == 0 && visit.visited == 0, "no key downwards");
+    for (uint64_t i = 0; i < COUNT; i++)
+        need(congee_live_owners_insert(map, 3 * i, fresh(i), NULL) == CONGEE_ABSENT, "a key");
+    need(congee_live_owners_each(map, 0, UINT64_MAX, visits, &visit) == 0 && visit.visited == COUNT, "all keys upwards");
+    for (uint64_t i = 0; i < COUNT; i++)
+        need(visit.keys[i] == 3 * i, "keys ascend");
+    visit.visited = 0;
+    need(congee_live_owners_each_descending(map, 0, UINT64_MAX, visits, &visit) == 0 && visit.visited == COUNT,
+         "all keys downwards");
+    for (uint64_t i = 0; i < COUNT; i++)
+        need(visit.keys[i] == 3 * (COUNT - 1 - i), "keys descend");
+    /* both ends are included, and a page may end at one */
+    for (uint64_t n = 1; n < COUNT; n += 21) {
+        visit.visited = 0;
+        need(congee_live_owners_each(map, 6, 6 + 3 * (n - 1), visits, &visit) == 0 && visit.visited == n &&
+                 visit.keys[n - 1] == 6 + 3 * (n - 1), "a range upwards");
+        visit.visited = 0;
+        need(congee_live_owners_each_descending(map, 6, 6 + 3 * (n - 1), visits, &visit) == 0 && visit.visited == n &&
+                 visit.keys[n - 1] == 6, "a range downwards");
+    }
+    visit.visited = 0;
+    need(congee_live_owners_each(map, 7, 6, visits, &visit) == 0 &&
+             congee_live_owners_each_descending(map, 7, 6, visits, &visit) == 0 && visit.visited == 0, "no range");
+    visit.ends_at = 210;
+    need(congee_live_owners_each(map, 3, 897, visits, &visit) == 41 && visit.visited == 70, "an end upwards");
+    visit.visited = 0;
+    need(congee_live_owners_each_descending(map, 3, 897, visits, &visit) == 41 && visit.visited == 230, "an end downwards");
+    need(congee_live_owners_remove(other, 210, NULL) == CONGEE_PRESENT && congee_live_owners_reclaim(other) == 1,
+         "a visit leaves no loan");
+    need(congee_live_owners_insert(other, 210, fresh(70), NULL) == CONGEE_ABSENT, "the key again");
+    visit = (struct visit){.map = map, .other = other, .ends_at = UINT64_MAX, .changes = true};
+    need(congee_live_owners_each(map, 0, UINT64_MAX, visits, &visit) == 0 && visit.visited == COUNT - COUNT / 10, "keys that go");
+    need(congee_live_owners_count(map) == COUNT - 2 * COUNT / 10, "those that are left");
+    congee_live_owners_free(map);
+    congee_live_owners_free(other);
+    none_is_left("visits");
+}
+
 /* -- Owners that wait -- */
 
 static void call_many(void) {
@@ -416,11 +572,15 @@ int main(void) {
     for (enum end end = RETURNS; end < ENDS; end++)
         call_loan(end);
     call_lent_by_changes();
+    call_searches(true);
+    call_searches(false);
+    call_visits();
     call_many();
     call_clear();
     call_handles();
     call_limit();
     call_lends_alone();
-    printf("%zu calls, %d ways in which a loan ends, %d handles\n", sizeof rows / sizeof *rows, ENDS, HANDLES);
+    printf("%zu calls, %d ways in which a loan ends, %zu searches, %d handles\n", sizeof rows / sizeof *rows, ENDS,
+           sizeof finds / sizeof *finds, HANDLES);
     return 0;
 }

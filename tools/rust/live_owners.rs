@@ -1,10 +1,10 @@
 //! Maps of objects that threads share, of `Arc` and of `Box`. Each object counts that it was made and dropped, and knows whether it
 //! is there. Threads make all calls at a few keys: in the end as many objects are dropped as were made, each once. Counters that
 //! are raised by exchanges lose nothing. What a refused insertion returns is what was handed in. A loan outlives its key, an `Arc`
-//! its map. An object's `Drop` calls the map by another guard.
+//! its map. An object's `Drop` calls the map by another guard. Keys are found and visited in their order, in both directions.
 
 use proved_congee::{
-    Busy, ExchangeError, LiveArcMap, LiveBoxGuard, LiveBoxMap, LiveOwnerGuard, LiveOwnerMap,
+    Busy, ExchangeError, LiveArcMap, LiveBoxGuard, LiveBoxMap, LiveOwnerGuard, LiveOwnerMap, Loan,
     PinError, Pointer, Refused, TryError,
 };
 use std::cell::RefCell;
@@ -113,6 +113,18 @@ fn call<P: Made>(guard: &mut LiveOwnerGuard<P>, key: u64, kind: u64, number: u64
             }
         }
         8 => drop(guard.try_get(key).map(|it| it.map(|it| it.read(key)))),
+        9 => drop(
+            guard
+                .ceiling(key)
+                .map(|(at, it)| (it.read(at), assert!(at >= key))),
+        ),
+        10 => {
+            if let Ok(Some((at, it))) = guard.try_below(key) {
+                it.read(at);
+                assert!(at < key);
+            }
+        }
+        11 => visit(guard, key, number % 4),
         _ => {
             if let Some(loan) = guard.get(key) {
                 let number = loan.read(key);
@@ -125,6 +137,30 @@ fn call<P: Made>(guard: &mut LiveOwnerGuard<P>, key: u64, kind: u64, number: u64
                 }
             }
         }
+    }
+}
+
+/// Visits keys in their order.
+fn visit<P: Made>(guard: &mut LiveOwnerGuard<P>, from: u64, kind: u64) {
+    let mut before = None;
+    let mut ascends = |key: u64, object: &Counted| {
+        object.read(key);
+        assert!(before.replace(key) < Some(key) && key >= from);
+    };
+    match kind {
+        0 => guard.for_each(from.., &mut ascends),
+        1 => {
+            let mut last = u64::MAX;
+            guard.for_each_descending(..=from, |key, object| {
+                object.read(key);
+                assert!(key <= last && key <= from);
+                last = key;
+            });
+        }
+        2 => assert!(guard.len() <= KEYS),
+        _ => assert!(guard
+            .keys()
+            .all(|key| (0..KEYS).any(|it| key_of(it) == key))),
     }
 }
 
@@ -144,7 +180,7 @@ fn churn<P: Made>() -> Result<(), Box<dyn Error>> {
                     call(
                         &mut guard,
                         key_of(place),
-                        next(&mut seed) % 11,
+                        next(&mut seed) % 14,
                         turn * THREADS + id,
                     );
                 }
@@ -279,6 +315,123 @@ fn one_by_one() -> Result<(), Box<dyn Error>> {
     Ok(())
 }
 
+/// Searches: from which key, and which of the stored keys each finds.
+const STORED: [u64; 5] = [5, 255, 256, 70_000, u64::MAX];
+
+type Found = Option<usize>;
+
+/// A key, and what `ceiling`, `above`, `floor` and `below` find.
+const SEARCHES: [(u64, [Found; 4]); 9] = [
+    (0, [Some(0), Some(0), None, None]),
+    (5, [Some(0), Some(1), Some(0), None]),
+    (6, [Some(1), Some(1), Some(0), Some(0)]),
+    (255, [Some(1), Some(2), Some(1), Some(0)]),
+    (256, [Some(2), Some(3), Some(2), Some(1)]),
+    (69_999, [Some(3), Some(3), Some(2), Some(2)]),
+    (70_000, [Some(3), Some(4), Some(3), Some(2)]),
+    (1 << 40, [Some(4), Some(4), Some(3), Some(3)]),
+    (u64::MAX, [Some(4), None, Some(4), Some(3)]),
+];
+
+/// The place of a key that was found, whose object is read.
+fn place_of(found: Option<(u64, Loan<'_, Arc<Counted>>)>) -> Found {
+    let (key, object) = found?;
+    let place = STORED.iter().position(|&it| it == key);
+    assert_eq!(Some(object.read(key) as usize), place);
+    place
+}
+
+fn searches(guard: &mut LiveOwnerGuard<Arc<Counted>>) -> Result<(), Busy> {
+    assert_eq!(
+        (place_of(guard.first()), place_of(guard.last())),
+        (Some(0), Some(4))
+    );
+    assert_eq!(
+        (
+            guard.try_first().map(place_of)?,
+            guard.try_last().map(place_of)?
+        ),
+        (Some(0), Some(4))
+    );
+    for (key, found) in SEARCHES {
+        let waits = [
+            place_of(guard.ceiling(key)),
+            place_of(guard.above(key)),
+            place_of(guard.floor(key)),
+            place_of(guard.below(key)),
+        ];
+        let tries = [
+            guard.try_ceiling(key).map(place_of)?,
+            guard.try_above(key).map(place_of)?,
+            guard.try_floor(key).map(place_of)?,
+            guard.try_below(key).map(place_of)?,
+        ];
+        assert_eq!((waits, tries), (found, found));
+    }
+    Ok(())
+}
+
+/// Keys in their order: searches, a visit beside removals and replacements, and iterators from both ends.
+fn in_order() -> Result<(), Box<dyn Error>> {
+    let map = LiveArcMap::<Counted>::new()?;
+    let (mut guard, mut other) = (map.pin()?, map.pin()?);
+    assert!(guard.is_empty() && guard.len() == 0 && guard.try_len()? == 0);
+    assert!(guard.first().is_none() && guard.last().is_none() && guard.keys().next().is_none());
+    for (key, number) in STORED.into_iter().zip(0..) {
+        until_made(|| {
+            guard
+                .insert(key, Arc::new(Counted::new(key, number)))
+                .map(drop)
+        });
+    }
+    assert!(!guard.is_empty() && guard.len() == 5 && guard.try_len()? == 5);
+    searches(&mut guard)?;
+    assert!(guard.keys().eq(STORED) && guard.keys().rev().eq(STORED.into_iter().rev()));
+    other.clear();
+    for key in 0..300 {
+        until_made(|| guard.insert(key, Arc::new(Counted::new(key, 0))).map(drop));
+    }
+    let mut visited = Vec::new();
+    guard.for_each(.., |key, object| {
+        visited.push((key, object.read(key)));
+        if key % 10 == 0 {
+            // (the next key goes, the one after it is replaced, and this one goes while its object is lent)
+            other.remove(key + 1).expect("the next key");
+            until_made(|| {
+                let new = Arc::new(Counted::new(key + 2, 9));
+                other.insert(key + 2, new).map(drop)
+            });
+            other.remove(key).expect("this key");
+            other.reclaim();
+            object.read(key);
+        }
+    });
+    let expected = (0..300)
+        .filter(|key| key % 10 != 1)
+        .map(|key| (key, if key % 10 == 2 { 9 } else { 0 }));
+    assert!(visited.into_iter().eq(expected));
+    let left: Vec<u64> = (0..300).filter(|key| key % 10 > 1).collect();
+    assert!(guard.keys().eq(left.iter().copied()) && guard.len() == 240);
+    let arcs: Vec<_> = guard.range(..).collect();
+    assert!(arcs.iter().map(|(key, _)| key).eq(&left));
+    assert!(arcs.iter().all(|(key, it)| it.read(*key) <= 9));
+    let mut ends = guard.range(10..=20);
+    let front: Vec<_> = ends.by_ref().take(3).map(|(key, _)| key).collect();
+    let back: Vec<_> = ends.rev().map(|(key, _)| key).collect();
+    assert_eq!(
+        (&front[..], &back[..]),
+        (&[12, 13, 14][..], &[19, 18, 17, 16, 15][..])
+    );
+    let mut down = Vec::new();
+    guard.for_each_descending(5..15, |key, _| down.push(key));
+    assert_eq!(down, [14, 13, 12, 9, 8, 7, 6, 5]);
+    drop((map, guard, other));
+    assert!(arcs.iter().all(|(_, it)| Arc::strong_count(it) == 1));
+    drop(arcs);
+    all_are_dropped();
+    Ok(())
+}
+
 /// An object whose drop calls its map by another guard, as a thread keeps one for that.
 struct Calls {
     also: u64,
@@ -361,6 +514,19 @@ fn waits() -> Result<(), Box<dyn Error>> {
         assert_eq!(guard.remove(key).expect("the key").read(key), 1);
         assert!(guard.insert_absent(key, new(3))?.is_none());
     }
+    let (mut up, mut down) = (0, 100);
+    guard.for_each(.., |key, object| {
+        assert!(key == up && object.read(key) == 3);
+        up += 1;
+    });
+    guard.for_each_descending(.., |key, object| {
+        down -= 1;
+        assert!(key == down && object.read(key) == 3);
+    });
+    assert!(up == 100 && down == 0 && guard.keys().eq(0..100));
+    assert!(guard.len() == 100 && !guard.is_empty());
+    assert_eq!(guard.above(6).expect("a key").1.read(7), 3);
+    assert_eq!(guard.last().expect("a key").1.read(99), 3);
     Ok(())
 }
 
@@ -370,6 +536,13 @@ fn busy() -> Result<(), Box<dyn Error>> {
     let mine = Arc::new(Counted::new(7, 0));
     assert_eq!(guard.try_get(7).map(|it| it.is_some()), Err(Busy));
     assert_eq!(guard.try_remove(7).map(|it| it.is_some()), Err(Busy));
+    assert_eq!(guard.try_first().map(|it| it.is_some()), Err(Busy));
+    assert_eq!(guard.try_ceiling(7).map(|it| it.is_some()), Err(Busy));
+    assert_eq!(guard.try_above(7).map(|it| it.is_some()), Err(Busy));
+    assert_eq!(guard.try_last().map(|it| it.is_some()), Err(Busy));
+    assert_eq!(guard.try_floor(7).map(|it| it.is_some()), Err(Busy));
+    assert_eq!(guard.try_below(7).map(|it| it.is_some()), Err(Busy));
+    assert_eq!(guard.try_len(), Err(Busy));
     let refused = guard.try_insert(7, mine.clone()).map(drop).unwrap_err();
     assert!(*refused.error() == TryError::Busy && Arc::ptr_eq(&refused.into_owner(), &mine));
     let refused = guard
@@ -393,6 +566,7 @@ fn main() -> Result<(), Box<dyn Error>> {
     if std::env::args().count() == 1 {
         counters()?;
         one_by_one()?;
+        in_order()?;
         drops_that_call()?;
         waits_for_few()?;
     }

@@ -141,6 +141,52 @@ int get_owner(congee_owners_guard &guard, uint64_t key, congee_lent *out) {
     return at == guard.table().entries.end() ? 0 : lend(guard, at->second, out);
 }
 
+// The owner of a ticket that is still in the map.
+int lend_ticket(congee_owners_guard &guard, uint64_t ticket, uint64_t *owner) {
+    congee_lent lent;
+    for (const auto &entry : guard.table().entries)
+        if (entry.second.ticket == ticket) {
+            lend(guard, entry.second, &lent);
+            *owner = lent.owner;
+            return 1;
+        }
+    guard.lends = false;
+    return 0;
+}
+
+// The keys from `start` to `last` with their tickets, at most `n`, ascending or descending.
+size_t page_of(congee_owners_guard &guard, bool up, uint64_t start, uint64_t last, congee_pair *out, size_t n) {
+    auto &entries = guard.table().entries;
+    size_t written = 0;
+    if (start > last)
+        return 0;
+    auto from = entries.lower_bound(start), to = entries.upper_bound(last);
+    while (from != to && written < n) {
+        auto at = up ? from++ : --to;
+        out[written++] = {at->first, at->second.ticket};
+    }
+    return written;
+}
+
+int find_key(congee_owners_guard &guard, bool up, uint64_t start, uint64_t last, congee_pair *out) {
+    return is_busy() ? CONGEE_BUSY : (int)page_of(guard, up, start, last, out, 1);
+}
+
+int page_or_busy(congee_owners_guard &guard, bool up, uint64_t start, uint64_t last, congee_pair *out, size_t n,
+                 uint64_t *written) {
+    if (is_busy())
+        return CONGEE_BUSY;
+    *written = page_of(guard, up, start, last, out, n);
+    return 0;
+}
+
+int count_keys(congee_owners_guard &guard, uint64_t *out) {
+    if (is_busy())
+        return CONGEE_BUSY;
+    *out = guard.table().entries.size();
+    return 0;
+}
+
 int get_or_insert_owner(congee_owners_guard &guard, uint64_t key, uint64_t owner, congee_lent *out) {
     auto at = guard.table().entries.find(key);
     return at == guard.table().entries.end() ? insert_owner(guard, key, owner, out) : lend(guard, at->second, out);
@@ -208,6 +254,24 @@ void congee_c_live_owners_meet(congee_live_owners_handle *h, congee_live_owners_
 void congee_c_live_owners_end(congee_live_owners_handle *h) { OWNERS((void)(guard.lends = false)) }
 uint64_t congee_c_live_owners_pending(congee_live_owners_handle *h) { OWNERS(guard.retired.size()) }
 int32_t congee_c_live_owners_get(congee_live_owners_handle *h, KEY, LENT) { OWNERS(get_owner(guard, key, out)) }
+int32_t congee_c_live_owners_lend(congee_live_owners_handle *h, uint64_t ticket, uint64_t *owner) {
+    OWNERS(lend_ticket(guard, ticket, owner))
+}
+int32_t congee_c_live_owners_ceiling(congee_live_owners_handle *h, KEY, congee_pair *out) {
+    OWNERS(find_key(guard, true, key, UINT64_MAX, out))
+}
+int32_t congee_c_live_owners_floor(congee_live_owners_handle *h, KEY, congee_pair *out) {
+    OWNERS(find_key(guard, false, 0, key, out))
+}
+int32_t congee_c_live_owners_range_inclusive(congee_live_owners_handle *h, uint64_t start, uint64_t last, congee_pair *page,
+                                             size_t n, uint64_t *out) {
+    OWNERS(page_or_busy(guard, true, start, last, page, n, out))
+}
+int32_t congee_c_live_owners_range_descending(congee_live_owners_handle *h, uint64_t start, uint64_t last, congee_pair *page,
+                                              size_t n, uint64_t *out) {
+    OWNERS(page_or_busy(guard, false, start, last, page, n, out))
+}
+int32_t congee_c_live_owners_count(congee_live_owners_handle *h, uint64_t *out) { OWNERS(count_keys(guard, out)) }
 int32_t congee_c_live_owners_insert(congee_live_owners_handle *h, KEY, uint64_t owner, LENT) {
     OWNERS(insert_owner(guard, key, owner, out))
 }

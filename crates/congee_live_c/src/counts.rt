@@ -37,7 +37,7 @@ pub extern "C" fn congee_c_live_count(handle: &mut Handle, out: &mut u64) -> i32
 }
 
 // The number. It saturates at `u64::MAX`.
-fn narrowed(number: u128) -> u64
+pub(crate) fn narrowed(number: u128) -> u64
     ensures { result ≡ capped number }
 {
     u64::try_from(number).unwrap_or(u64::MAX)

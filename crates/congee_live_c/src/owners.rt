@@ -12,7 +12,7 @@
 //! - `OOM_KEPT` or `BUSY_KEPT`: it isn't stored, and comes back by a later `congee_c_live_owners_reclaim`, of this handle or another;
 //! - `FULL`: 64 handles are in use.
 //!
-//! Here are the calls that make a map and its handles. `loans`, `updates`, `exchanges` and `returns` have the others.
+//! Here are the calls that make a map and its handles. `loans`, `readers`, `updates`, `exchanges` and `returns` have the others.
 //!
 //! Tested in `tools/c-library`.
 
@@ -26,6 +26,7 @@ mod exchanges;
 pub mod handle;
 mod held;
 mod loans;
+mod readers;
 mod returns;
 pub mod room;
 mod updates;

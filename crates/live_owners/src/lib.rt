@@ -7,6 +7,7 @@
 //! - `insert`, `remove` and `compare_exchange` retire the ticket that left the map, and lend its owner to the handle first. So a
 //!   caller sees what was there before.
 //! - `get_or_insert` lends what is there, or stores an owner.
+//! - `ceiling`, `floor` and pages have keys with their tickets, and `lend` has the owner of a ticket.
 //! - `reclaim` returns an owner that left the map and that no handle has lent, each once: now it can be released. `drain` empties
 //!   the map, and returns one owner after another.
 //!
@@ -23,4 +24,5 @@ mod drains;
 mod exchanges;
 pub mod handle;
 pub mod map;
+mod readers;
 mod updates;

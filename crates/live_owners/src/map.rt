@@ -68,9 +68,10 @@ impl LiveOwners {
         self.table.leave(lender);
     }
 
-    // The owner of a ticket, which is lent to the handle then. `None` where the ticket is retired.
+    /// The owner of a ticket, which is lent to the handle then. `None` where the ticket is retired, or was never issued. The loan
+    /// before ends.
     #[tactic(auto, using(crate::proofs::Steps::lent_more, crate::proofs::Steps::lent_keeps, crate::proofs::Steps::lent_loan))]
-    pub(crate) fn lend(&self, handle: &mut OwnersHandle, ticket: u64) -> Option<u64>
+    pub fn lend(&self, handle: &mut OwnersHandle, ticket: u64) -> Option<u64>
         requires map { IsHandleOf self.now handle.old }
         ensures map { KnowsMore handle.old handle.new }
         ensures tickets { handle.new.tickets ≡ handle.old.tickets }

@@ -10,4 +10,6 @@ mod exchanges;
 #[cfg(test)]
 mod memory;
 #[cfg(test)]
+mod readers;
+#[cfg(test)]
 mod refusals;

@@ -1,0 +1,16 @@
+use Rattle.std.proofs.Common.{rules, arith, pos, ◌≡◌, IfOk, subst}
+use Rattle.live_scans.specs.Scans.{HasNext}
+use Rattle.std.proofs.lemmas.Grind.{common_steps}
+use Rattle.congee_live_c.proofs.owners.readers.congee_c_live_owners_ceiling.Goals as goal
+
+pub returns-clause-present : goal.returns-clause-present
+returns-clause-present c = λ present.
+    let is : c.answer_pair.result ≡ pos 1 = first_of (search rules, grind (arith, common_steps)) in
+    let all : IfOk c.ceiling.result (λ found. HasNext c.args.handle.now.held.tickets c.args.key found c.ceiling.new.handle.tickets) = first_of (search rules, grind (arith, common_steps)) in
+    subst (λ z. IfOk z (λ found. HasNext c.args.handle.now.held.tickets c.args.key found c.ceiling.new.handle.tickets)) (c.answer_pair.ensures.present is) all
+
+pub returns-clause-absent : goal.returns-clause-absent
+returns-clause-absent c = λ absent.
+    let is : c.answer_pair.result ≡ pos 0 = first_of (search rules, grind (arith, common_steps)) in
+    let all : IfOk c.ceiling.result (λ found. HasNext c.args.handle.now.held.tickets c.args.key found c.ceiling.new.handle.tickets) = first_of (search rules, grind (arith, common_steps)) in
+    subst (λ z. IfOk z (λ found. HasNext c.args.handle.now.held.tickets c.args.key found c.ceiling.new.handle.tickets)) (c.answer_pair.ensures.absent is) all
