@@ -148,7 +148,7 @@ def owner_calls(page, head):
 
 def owner_methods():
     """The public functions of a guard of objects."""
-    blocks = re.findall(r"(?ms)^impl<[^\n]*> LiveOwnerGuard<[^\n]*\{$(.*?)^\}$", text_of("rust/src/live_owners.rs"))
+    blocks = re.findall(r"(?ms)^impl<[^\n]*> LiveOwnerGuard<[^\n]*\{$(.*?)^\}$", text_of("rust/src/live_owners.rs") + text_of("rust/src/live_owners/in_order.rs"))
     return {name for it in blocks for name in re.findall(r"(?m)^    pub fn (\w+)", it)}
 
 

@@ -90,6 +90,7 @@ impl<P: Pointer> LiveOwnerGuard<P> {
     /// # Ok(())
     /// # }
     /// ```
+    #[doc(alias("first_entry", "first_key_value", "min", "peek"))]
     pub fn first(&mut self) -> Option<(u64, Loan<'_, P>)> {
         let found = waiting(|| self.search(true, 0));
         self.pair_of(found)
@@ -130,6 +131,7 @@ impl<P: Pointer> LiveOwnerGuard<P> {
     /// # Ok(())
     /// # }
     /// ```
+    #[doc(alias = "lower_bound")]
     pub fn ceiling(&mut self, key: impl Borrow<u64>) -> Option<(u64, Loan<'_, P>)> {
         let from = *key.borrow();
         let found = waiting(|| self.search(true, from));
@@ -175,6 +177,7 @@ impl<P: Pointer> LiveOwnerGuard<P> {
     /// # Ok(())
     /// # }
     /// ```
+    #[doc(alias("successor", "upper_bound"))]
     pub fn above(&mut self, key: impl Borrow<u64>) -> Option<(u64, Loan<'_, P>)> {
         let from = key.borrow().checked_add(1)?;
         let found = waiting(|| self.search(true, from));
@@ -220,6 +223,7 @@ impl<P: Pointer> LiveOwnerGuard<P> {
     /// # Ok(())
     /// # }
     /// ```
+    #[doc(alias("last_entry", "last_key_value", "max"))]
     pub fn last(&mut self) -> Option<(u64, Loan<'_, P>)> {
         let found = waiting(|| self.search(false, u64::MAX));
         self.pair_of(found)
@@ -302,6 +306,7 @@ impl<P: Pointer> LiveOwnerGuard<P> {
     /// # Ok(())
     /// # }
     /// ```
+    #[doc(alias = "predecessor")]
     pub fn below(&mut self, key: impl Borrow<u64>) -> Option<(u64, Loan<'_, P>)> {
         let from = key.borrow().checked_sub(1)?;
         let found = waiting(|| self.search(false, from));
@@ -423,7 +428,7 @@ impl<P: Pointer> LiveOwnerGuard<P> {
     /// # Ok(())
     /// # }
     /// ```
-    #[doc(alias("count", "size"))]
+    #[doc(alias("count", "size", "value_count"))]
     pub fn len(&self) -> u64 {
         waiting(|| self.try_len())
     }
@@ -482,7 +487,7 @@ impl<T: Send + Sync + 'static> LiveOwnerGuard<Arc<T>> {
     /// # Ok(())
     /// # }
     /// ```
-    #[doc(alias("between", "scan"))]
+    #[doc(alias("cursor", "range_mut", "scan"))]
     pub fn range(&mut self, bounds: impl RangeBounds<u64>) -> Arcs<'_, T> {
         Arcs {
             guard: self,
