@@ -3,11 +3,12 @@
 //! Tested in `tools/c-library`.
 
 ghost use Rattle.std.specs.Prelude.{◌≡◌, IfOk};
-ghost use Rattle.congee_c.specs.inner.Owned.{held_coded, handle_owns};
+ghost use Rattle.c_handles.specs.Owned.{held_coded, handle_owns};
 ghost use Rattle.congee_c.specs.declared.held.Held.{Held};
+ghost use Rattle.congee_c.specs.contracts.held.Held.{the_row as held_row};
 
 use crate::held::Held;
-use crate::parts::Parts;
+use c_handles::parts::Parts;
 use std::alloc::{AllocError, Global};
 use std::marker::Model;
 
@@ -16,11 +17,11 @@ use std::marker::Model;
 pub struct Handle {
     pub ptr: *mut u8,
     pub(crate) alloc: Global,
-    pub ghost held: { Held } by { held_coded },
+    pub ghost held: { Held } by { held_coded held_row },
 }
 
 impl Model for Handle {
-    ghost also_owns = { λ h. handle_owns h.alloc h.ptr h.held };
+    ghost also_owns = { λ h. handle_owns held_row h.alloc h.ptr h.held };
 }
 
 impl Handle {
@@ -62,7 +63,7 @@ impl Handle {
         }
     }
 
-    fn into_parts(self) -> Parts<Held, Global>
+    pub(crate) fn into_parts(self) -> Parts<Held, Global>
         ensures { result.value ≡ self.held }
     {
         let Handle { ptr, alloc } = self;

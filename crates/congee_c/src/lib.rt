@@ -28,7 +28,6 @@ mod frozen;
 mod handle;
 mod held;
 mod near;
-mod parts;
 mod room;
 
 pub use frozen::handle::FrozenHandle;

@@ -28,7 +28,6 @@ mod meetings;
 mod next_pair;
 mod owners;
 mod pair_before;
-mod parts;
 mod pops;
 mod ranges;
 mod room;

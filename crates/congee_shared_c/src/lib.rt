@@ -23,7 +23,6 @@ mod computed;
 mod ends;
 mod handle;
 mod held;
-mod parts;
 mod ranges;
 mod room;
 mod whole;

@@ -4,9 +4,12 @@
 
 ghost use Rattle.std.specs.Prelude.{◌≡◌, Option, Some};
 ghost use Rattle.congee_shared_c.specs.declared.held.Held.{Held};
-ghost use Rattle.congee_shared_c.specs.inner.Owned.{room_owns, room_coded};
+ghost use Rattle.congee_shared_c.specs.contracts.held.Held.{the_row as held_row};
+ghost use Rattle.c_handles.specs.Owned.{room_owns, room_coded};
 
 use crate::handle::Handle;
+use crate::held::Held;
+use c_handles::parts::Parts;
 use std::alloc::Global;
 use std::marker::Model;
 
@@ -16,11 +19,11 @@ use std::marker::Model;
 pub struct Room {
     ptr: *mut u8,
     alloc: Global,
-    pub ghost held: { Option Held } by { room_coded },
+    pub ghost held: { Option Held } by { room_coded held_row },
 }
 
 impl Model for Room {
-    ghost also_owns = { λ r. room_owns r.alloc r.ptr r.held };
+    ghost also_owns = { λ r. room_owns held_row r.alloc r.ptr r.held };
 }
 
 impl Room {
@@ -28,7 +31,16 @@ impl Room {
     pub(crate) fn of(handle: Handle) -> Room
         ensures { result.held ≡ Some handle.held }
     {
-        let Handle { ptr, alloc } = handle;
-        Room { ptr, alloc }
+        Room::of_parts(handle.into_parts())
+    }
+
+    fn of_parts(parts: Parts<Held, Global>) -> Room
+        ensures { result.held ≡ Some parts.value }
+    {
+        let Parts { ptr, alloc } = parts;
+        Room {
+            ptr: ptr as *mut u8,
+            alloc,
+        }
     }
 }

@@ -3,11 +3,12 @@
 //! Tested in `tools/c-library`.
 
 ghost use Rattle.std.specs.Prelude.{◌≡◌, IfOk};
-ghost use Rattle.congee_c.specs.inner.Owned.{reader_coded, frozen_owns};
+ghost use Rattle.c_handles.specs.Owned.{held_coded, handle_owns};
 ghost use Rattle.congee_c.specs.declared.frozen.reader.Reader.{Reader};
+ghost use Rattle.congee_c.specs.contracts.frozen.reader.Reader.{the_row as reader_row};
 
 use crate::frozen::reader::Reader;
-use crate::parts::Parts;
+use c_handles::parts::Parts;
 use std::alloc::{AllocError, Global};
 use std::marker::Model;
 
@@ -16,11 +17,11 @@ use std::marker::Model;
 pub struct FrozenHandle {
     pub ptr: *mut u8,
     pub(crate) alloc: Global,
-    pub ghost reader: { Reader } by { reader_coded },
+    pub ghost reader: { Reader } by { held_coded reader_row },
 }
 
 impl Model for FrozenHandle {
-    ghost also_owns = { λ h. frozen_owns h.alloc h.ptr h.reader };
+    ghost also_owns = { λ h. handle_owns reader_row h.alloc h.ptr h.reader };
 }
 
 impl FrozenHandle {
@@ -48,7 +49,7 @@ impl FrozenHandle {
         }
     }
 
-    fn into_parts(self) -> Parts<Reader, Global>
+    pub(crate) fn into_parts(self) -> Parts<Reader, Global>
         ensures { result.value ≡ self.reader }
     {
         let FrozenHandle { ptr, alloc } = self;

@@ -4,11 +4,11 @@
 
 ghost use Rattle.std.specs.Prelude.{◌≡◌};
 ghost use Rattle.congee_live_c.specs.contracts.owners.held.Held.{the_row as held_row};
-ghost use Rattle.congee_live_c.specs.inner.Owned.{held_coded, handle_owns};
+ghost use Rattle.c_handles.specs.Owned.{held_coded, handle_owns};
 ghost use Rattle.live_owners.specs.Owners.{OwnersKnown};
 
 use crate::owners::held::Held;
-use crate::parts::Parts;
+use c_handles::parts::Parts;
 use std::alloc::Global;
 use std::marker::Model;
 

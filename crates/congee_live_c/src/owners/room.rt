@@ -5,10 +5,10 @@
 ghost use Rattle.std.specs.Prelude.{◌≡◌, Option, Some};
 ghost use Rattle.live_owners.specs.Owners.{OwnersKnown};
 ghost use Rattle.congee_live_c.specs.contracts.owners.held.Held.{the_row as held_row};
-ghost use Rattle.congee_live_c.specs.inner.Owned.{room_owns, room_coded};
+ghost use Rattle.c_handles.specs.Owned.{room_owns, room_coded};
 
 use crate::owners::held::Held;
-use crate::parts::Parts;
+use c_handles::parts::Parts;
 use std::alloc::Global;
 use std::marker::Model;
 

@@ -1,7 +1,7 @@
 -- `as_mut` lends what the handle holds.
 use mathlib.Core.Path.{refl}
 use Rattle.congee_live_c.proofs.AsNumbers.{E}
-use Rattle.congee_live_c.proofs.Lends.{Lend, lends}
+use Rattle.c_handles.proofs.Lends.{Lend, lends}
 use Rattle.congee_live_c.specs.inner.After.{with_held}
 use Rattle.congee_live_c.specs.contracts.handle.Handle as Handle
 use Rattle.congee_live_c.specs.contracts.handle.Handle.as_mut.Key.{name}

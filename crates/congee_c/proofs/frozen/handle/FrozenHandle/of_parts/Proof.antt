@@ -1,58 +1,29 @@
--- `of_parts` moves two fields, and what they own goes with them.
-use mathlib.Core.Path.{refl}
-use mathlib.Core.List.{[], ◌∷◌, ◌++◌}
-use seplogic.Ra.Ura.{Ura}
-use base.Logic.{SProp, ent}
-use prog.Memory.{Memory}
-use prog.Routine.{Routine}
-use prog.Wp.{WpFn, Tables}
-use types.Logic.{Logic}
-use contract.Monad.{Fun}
-use contract.Running.{tables, tables_of}
-use sound.WpLaws.{WpFn-mono}
-use types.Kit.{‵, ◌$◌, ◌∵◌, !, qed, join, fjoin, suffices, done}
-use types.Part.{whole, sub, agg}
-use types.Run.{stop, fld, no_more, and_then, of_opd, returns, enter}
-use types.ByLocal.{alloc_all, pass_all, free_all, look_at, get, get_in, sets}
-use denote.Exit.{yes}
-use denote.Signature.{type_at}
-use denote.Steps.{nothing}
-use denote.Triple.Spec.{triple_of}
-use denote.Triple.Table.{entered}
-use denote.Triple.Walked.{says, Stays, stay_dropped, walk_of, ends_at, Goes-dropped, walk_Meets}
-use Rattle.std_alloc.proofs.BoxSteps.Form.{D, word, box_typed}
-use Rattle.congee_c.proofs.AsReader.{E, FromParts as From}
-use Rattle.congee_c.proofs.AsWord.{as_word}
-use Rattle.congee_c.specs.contracts.frozen.handle.FrozenHandle.of_parts as F
-use Rattle.congee_c.specs.contracts.frozen.handle.FrozenHandle.of_parts.Key.{name as #self}
-use Rattle.congee_c.proofs.frozen.handle.FrozenHandle.of_parts.Statement as stated
-use Rattle.congee_c.proofs.frozen.handle.FrozenHandle.of_parts.Code as code
+-- `of_parts` moves the fields of the parts.
+use mathlib.Core.Path.{◌≡◌, refl}
+use Rattle.c_handles.proofs.AsBox.{parts_row, parts_name}
+use Rattle.c_handles.proofs.Moves.{Move, moves}
+use Rattle.congee_c.proofs.AsReader.{E}
+use Rattle.congee_c.specs.contracts.frozen.reader.Reader as Reader
+use Rattle.congee_c.specs.contracts.frozen.handle.FrozenHandle as To
+use Rattle.congee_c.specs.contracts.frozen.handle.FrozenHandle.of_parts.Key.{name}
+use Rattle.congee_c.proofs.frozen.handle.FrozenHandle.of_parts.Statement.{statement}
+use Rattle.congee_c.proofs.frozen.handle.FrozenHandle.of_parts.Code.{unfolded}
 
-abbrev stayed : Stays (F.ended).signature.params (F.ended).kept
-stayed = (stay_dropped From yes, tt)
+abbrev moved : Move E
+moved = record {
+  From = parts_row Reader.the_row;
+  To = To.the_row;
+  from = parts_name;
+  to = (To.the_type).name;
+  box = λ p. record { ptr = p.ptr; alloc = p.alloc; value = p.value };
+  made = λ v. record { ptr = v.ptr; alloc = v.alloc; reader = v.value };
+  takes = λ p us. refl;
+  gives = λ v us. refl;
+  last = λ p. tt;
+  quiet = λ p f. refl;
+  Has = λ r p. r.reader ≡ p.value;
+  has = λ p. refl;
+}
 
-module _ {M : Type 1} {𝓤 : Ura M} (𝓛 : Logic 𝓤) (at_mem : Memory → SProp 𝓤) (run : Routine → Fun 𝓤) (𝓣 : Tables 𝓤 𝓛.H) where
-  open 𝓛 use {H}
-
-  walk : (z : (walk_of 𝓛 F.ended stayed (F.clauses 𝓛 at_mem run)).Ghost)
-      → ent 𝓤 ((walk_of 𝓛 F.ended stayed (F.clauses 𝓛 at_mem run)).pre z) (WpFn 𝓤 H 𝓣.C 𝓣.Λ code.function (z.0.4.0 ++ []) ((walk_of 𝓛 F.ended stayed (F.clauses 𝓛 at_mem run)).post z))
-  walk z =
-      let Post = (walk_of 𝓛 F.ended stayed (F.clauses 𝓛 at_mem run)).post z in
-      let v : D E = record { ptr = z.0.3.0.ptr; alloc = z.0.3.0.alloc; value = z.0.3.0.value } in
-      let To = type_at (F.signature).result tt in
-      let made : To.Denot = record { ptr = v.ptr; alloc = v.alloc; reader = v.value } in
-      as_word E 𝓛 v z.0.4.0 (λ us. WpFn 𝓤 H 𝓣.C 𝓣.Λ code.function (us ++ []) Post) (λ b o hv fa.
-      let w = word E hv b o in
-      qed 𝓛 (‵ (To.own_val made (w ∷ [])) ∷ []) ∵ enter ! 𝓣.C 𝓣.Λ code.function (w ∷ []) _ $ alloc_all ! (λ ls. pass_all ! refl (box_typed E hv b o fa, tt) $
-      sets ! (of_opd ! (get_in ! (fld ! refl (stop !)) (sub ! 0 refl (whole !)))) refl (tt, tt) $ sets ! (of_opd ! (get_in ! (fld ! refl (stop !)) (sub ! 1 refl (whole !)))) refl fa $
-      sets ! (of_opd ! (get ! refl)) refl (tt, tt) $ sets ! (agg ! (and_then ! (get ! refl) (and_then ! (get ! refl) (no_more !)))) refl (box_typed E hv b o fa) $ returns ! (look_at ! 0 refl) $ free_all ! refl $
-      suffices ! _ (ends_at 𝓛 F.ended stayed (F.clauses 𝓛 at_mem run) z w made (tt, tt) (tt, tt)) $ says ! refl $
-      nothing ! $ nothing ! $ fjoin ! $ join ! $ nothing ! $ join ! $ done !))
-
-pub of_parts_spec : {M : Type 1} → stated.statement M
-unfolding tables_of
-of_parts_spec 𝓤 𝓛 𝓜 𝓡 wired =
-    let 𝓣 : Tables 𝓤 𝓛.H = tables_of 𝓤 𝓛.H 𝓜 (tables 𝓤 𝓛.H 𝓜 𝓡 𝓡.env) in
-    entered 𝓤 𝓛.H (triple_of 𝓛 F.signature (F.spec 𝓛 𝓜.mem 𝓡.returns)) 𝓣.C 𝓣.Λ #self code.function (code.unfolded 𝓤 𝓛.H 𝓜 𝓡 wired)
-    (walk_Meets 𝓛 F.ended stayed (Goes-dropped 𝓛 0 From yes (λ κs x f. refl), tt) (F.clauses 𝓛 𝓜.mem 𝓡.returns) (WpFn 𝓤 𝓛.H 𝓣.C 𝓣.Λ code.function) (WpFn-mono 𝓤 𝓛.H 𝓛.laws 𝓣 code.function)
-    (walk 𝓛 𝓜.mem 𝓡.returns 𝓣))
+pub of_parts_spec : {M : Type 1} → statement M
+of_parts_spec 𝓤 𝓛 𝓜 𝓡 wired = moves E moved 𝓛 𝓜 𝓡 name (unfolded 𝓤 𝓛.H 𝓜 𝓡 wired)

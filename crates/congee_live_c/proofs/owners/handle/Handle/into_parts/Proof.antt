@@ -1,8 +1,8 @@
 -- `into_parts` moves the fields of a handle.
 use mathlib.Core.Path.{◌≡◌, refl}
-use Rattle.congee_live_c.proofs.AsBox.{parts_row, parts_name}
+use Rattle.c_handles.proofs.AsBox.{parts_row, parts_name}
 use Rattle.congee_live_c.proofs.AsOwners.{E}
-use Rattle.congee_live_c.proofs.Moves.{Move, moves}
+use Rattle.c_handles.proofs.Moves.{Move, moves}
 use Rattle.congee_live_c.specs.contracts.owners.held.Held as Held
 use Rattle.congee_live_c.specs.contracts.owners.handle.Handle as Handle
 use Rattle.congee_live_c.specs.contracts.owners.handle.Handle.into_parts.Key.{name}

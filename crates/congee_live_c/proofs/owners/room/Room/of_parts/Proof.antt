@@ -1,9 +1,9 @@
 -- `of_parts` moves the fields of the parts.
 use mathlib.Core.Path.{◌≡◌, refl}
 use Rattle.std.specs.Prelude.{Some}
-use Rattle.congee_live_c.proofs.AsBox.{parts_row, parts_name}
+use Rattle.c_handles.proofs.AsBox.{parts_row, parts_name}
 use Rattle.congee_live_c.proofs.AsOwners.{E}
-use Rattle.congee_live_c.proofs.Moves.{Move, moves}
+use Rattle.c_handles.proofs.Moves.{Move, moves}
 use Rattle.congee_live_c.specs.contracts.owners.held.Held as Held
 use Rattle.congee_live_c.specs.contracts.owners.room.Room as Room
 use Rattle.congee_live_c.specs.contracts.owners.room.Room.of_parts.Key.{name}

@@ -7,7 +7,7 @@ use Rattle.std_alloc.proofs.BoxSteps.Form.{Bx}
 use Rattle.std.specs.contracts.alloc.Global as Heap
 use Rattle.std.specs.contracts.impls.GlobalAllocator.TheImpl.{ghosts, dict}
 use Rattle.std.proofs.alloc.Global.TheLaws as heap
-use Rattle.congee_live_c.specs.contracts.parts.Parts as Parts
+use Rattle.c_handles.specs.contracts.parts.Parts as Parts
 
 abbrev pub boxed : (R : RattleType) → Laws R → Bx
 boxed R laws = record { row = R; laws = laws; al = record { row = Heap.the_row; laws = heap.the_row_laws; g = ghosts; d = dict; drops = impl [] tnil dnil } }

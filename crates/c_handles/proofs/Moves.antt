@@ -26,7 +26,7 @@ use denote.Triple.Table.{entered}
 use denote.Triple.Walked.{says, Stays, stay_dropped, walk_of, ends_at, Goes-dropped, walk_Meets}
 use Rattle.core.proofs.alloc.Calls.{α}
 use Rattle.std_alloc.proofs.BoxSteps.Form.{Bx, D, B, word, box_typed}
-use Rattle.congee_live_c.proofs.AsWord.{as_word}
+use Rattle.c_handles.proofs.AsWord.{as_word}
 
 -- the two structs, each of which has what a box has, and what is said of the result
 pub record Move (E : Bx) : Type 1 where

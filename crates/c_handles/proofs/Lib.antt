@@ -1,0 +1,4 @@
+pub mod AsBox
+pub mod AsWord
+pub mod Lends
+pub mod Moves

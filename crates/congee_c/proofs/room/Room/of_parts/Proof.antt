@@ -1,0 +1,30 @@
+-- `of_parts` moves the fields of the parts.
+use mathlib.Core.Path.{◌≡◌, refl}
+use Rattle.std.specs.Prelude.{Some}
+use Rattle.c_handles.proofs.AsBox.{parts_row, parts_name}
+use Rattle.c_handles.proofs.Moves.{Move, moves}
+use Rattle.congee_c.proofs.AsMap.{E}
+use Rattle.congee_c.specs.contracts.held.Held as Held
+use Rattle.congee_c.specs.contracts.room.Room as To
+use Rattle.congee_c.specs.contracts.room.Room.of_parts.Key.{name}
+use Rattle.congee_c.proofs.room.Room.of_parts.Statement.{statement}
+use Rattle.congee_c.proofs.room.Room.of_parts.Code.{unfolded}
+
+abbrev moved : Move E
+moved = record {
+  From = parts_row Held.the_row;
+  To = To.the_row;
+  from = parts_name;
+  to = (To.the_type).name;
+  box = λ p. record { ptr = p.ptr; alloc = p.alloc; value = p.value };
+  made = λ v. record { ptr = v.ptr; alloc = v.alloc; held = Some v.value };
+  takes = λ p us. refl;
+  gives = λ v us. refl;
+  last = λ p. tt;
+  quiet = λ p f. refl;
+  Has = λ r p. r.held ≡ Some p.value;
+  has = λ p. refl;
+}
+
+pub of_parts_spec : {M : Type 1} → statement M
+of_parts_spec 𝓤 𝓛 𝓜 𝓡 wired = moves E moved 𝓛 𝓜 𝓡 name (unfolded 𝓤 𝓛.H 𝓜 𝓡 wired)
