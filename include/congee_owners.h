@@ -721,6 +721,36 @@ static inline int congee_live_owners_compare_exchange(struct congee_live_owners 
     return code;
 }
 
+/* Removes the key, if the key still has this ticket (congee_live_owners_borrow). The ticket decides, and not the
+ * address: after a removal and an insertion of one object the key has another ticket. Returns CONGEE_PRESENT with the
+ * removed owner in *old, which is lent to the handle, or CONGEE_OTHER if the key has another ticket or is absent, which
+ * leaves *old unchanged. Null in *old is no owner. For a null `old` nothing is lent. A removal is never out of memory.
+ * Returns CONGEE_BUSY, with nothing changed, if other threads were in the way at each of the call's tries. */
+static inline int congee_live_owners_try_compare_remove(struct congee_live_owners *map, uint64_t key, uint64_t ticket,
+                                                        void **old) {
+    struct congee_lent before = {0, 0};
+    int code;
+    congee_owners_tidy(map);
+    code = congee_c_live_owners_compare_remove(&map->handle, key, ticket, &before);
+    if (code <= 0)
+        return code == 0 ? CONGEE_OTHER : code;
+    congee_owners_lend(map, &before, old);
+    return CONGEE_PRESENT;
+}
+
+/* Removes the key, if the key still has this ticket (congee_live_owners_borrow). The ticket decides, and not the
+ * address: after a removal and an insertion of one object the key has another ticket. Returns CONGEE_PRESENT with the
+ * removed owner in *old, which is lent to the handle, or CONGEE_OTHER if the key has another ticket or is absent, which
+ * leaves *old unchanged. Null in *old is no owner. For a null `old` nothing is lent. A removal is never out of memory.
+ * While other threads are in the way, the call yields and tries again. */
+static inline int congee_live_owners_compare_remove(struct congee_live_owners *map, uint64_t key, uint64_t ticket,
+                                                    void **old) {
+    int code;
+    while ((code = congee_live_owners_try_compare_remove(map, key, ticket, old)) == CONGEE_BUSY)
+        CONGEE_YIELD();
+    return code;
+}
+
 /* Stores the owner if the key is absent, and keeps the owner of a present key. Returns CONGEE_ABSENT for a new key,
  * which leaves *found unchanged: the map has the caller's reference. Returns CONGEE_PRESENT for a present key, with the
  * present owner in *found, which is lent to the handle: the reference to `owner` is the caller's still. For a null

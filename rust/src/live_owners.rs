@@ -714,6 +714,15 @@ impl<P: Pointer> LiveOwnerGuard<P> {
         unless_busy(code, |code| (code, lent))
     }
 
+    fn take_ticket(&mut self, key: u64, ticket: Ticket) -> Result<(i32, Lent), Busy> {
+        self.tidy();
+        let mut lent = Lent::default();
+        let code = unsafe {
+            congee_c_live_owners_compare_remove(&mut self.handle(), key, ticket.0, &mut lent)
+        };
+        unless_busy(code, |code| (code, lent))
+    }
+
     /// Makes one more guard of the same map. Takes a small block. Returns an error, with nothing changed, if there is no
     /// memory for a guard, or if the map has 64 guards.
     ///
@@ -972,6 +981,54 @@ impl<P: Pointer> LiveOwnerGuard<P> {
             Err(why) => return Err(not_exchanged(why.0, refused(why))),
         }
         Ok(())
+    }
+
+    /// Removes the key, if the key still has this [`Ticket`], and lends the removed object. The ticket decides: after a
+    /// removal and an insertion of one object the key has another ticket. Returns `None` if the key has another ticket or
+    /// is absent. (`None`, too, if the library can't lend the removed object, which no test has met.) Never out of memory.
+    /// While other threads are in the way, the call yields and tries again.
+    ///
+    /// ```
+    /// # fn main() -> Result<(), Box<dyn std::error::Error>> {
+    /// let mut guard = proved_congee::LiveBoxMap::new()?.pin()?;
+    /// guard.insert(7, Box::new(70)).unwrap();
+    /// let first = guard.get(7).unwrap().ticket();
+    /// guard.insert(7, Box::new(71)).unwrap();
+    /// assert!(guard.compare_remove(7, first).is_none());
+    /// let second = guard.get(7).unwrap().ticket();
+    /// assert_eq!(guard.compare_remove(7, second).as_deref(), Some(&71));
+    /// # Ok(())
+    /// # }
+    /// ```
+    pub fn compare_remove(&mut self, key: u64, ticket: Ticket) -> Option<Loan<'_, P>> {
+        let removed = waiting(|| self.take_ticket(key, ticket));
+        self.loan(removed)
+    }
+
+    /// Removes the key, if the key still has this [`Ticket`], and lends the removed object. The ticket decides: after a
+    /// removal and an insertion of one object the key has another ticket. Returns `None` if the key has another ticket or
+    /// is absent. (`None`, too, if the library can't lend the removed object, which no test has met.) Never out of memory.
+    /// Doesn't wait: returns [`Busy`], with nothing changed, if other threads were in the way at each of a bounded number
+    /// of tries.
+    ///
+    /// ```
+    /// # fn main() -> Result<(), Box<dyn std::error::Error>> {
+    /// let mut guard = proved_congee::LiveBoxMap::new()?.pin()?;
+    /// guard.insert(7, Box::new(70)).unwrap();
+    /// let first = guard.get(7).unwrap().ticket();
+    /// guard.insert(7, Box::new(71)).unwrap();
+    /// assert!(guard.try_compare_remove(7, first)?.is_none());
+    /// assert!(guard.get(7).is_some());
+    /// # Ok(())
+    /// # }
+    /// ```
+    pub fn try_compare_remove(
+        &mut self,
+        key: u64,
+        ticket: Ticket,
+    ) -> Result<Option<Loan<'_, P>>, Busy> {
+        let removed = self.take_ticket(key, ticket)?;
+        Ok(self.loan(removed))
     }
 
     /// Lends the object at the key, beside what was handed in. If the key is absent, stores what was handed in and returns

@@ -76,6 +76,16 @@ static int32_t given_remove(struct congee_live_owners_handle *map, uint64_t key,
     return is_answered(0) ? answer : congee_c_live_owners_remove(map, key, before);
 }
 
+static int32_t given_take(struct congee_live_owners_handle *map, uint64_t key, uint64_t ticket, struct congee_lent *before) {
+    if (answer == 2 && answers > 0 && answers--) {
+        int32_t code = congee_c_live_owners_compare_remove(map, key, ticket, before);
+        before->owner = 0;
+        congee_c_live_owners_end(map);
+        return code == 1 ? 2 : code;
+    }
+    return is_answered(0) ? answer : congee_c_live_owners_compare_remove(map, key, ticket, before);
+}
+
 static int32_t given_exchange(struct congee_live_owners_handle *map, uint64_t key, uint64_t ticket, uint64_t owner,
                               struct congee_lent *before) {
     if (answer == 2 && answers > 0 && answers--) {
@@ -116,6 +126,7 @@ static int32_t given_drain(struct congee_live_owners_handle *map, struct congee_
 #define congee_c_live_owners_insert given_insert
 #define congee_c_live_owners_remove given_remove
 #define congee_c_live_owners_compare_exchange given_exchange
+#define congee_c_live_owners_compare_remove given_take
 #define congee_c_live_owners_get_or_insert given_get_or_insert
 #define congee_c_live_owners_reclaim given_reclaim
 #define congee_c_live_owners_drain given_drain
@@ -242,8 +253,14 @@ static void call_not_lent(void) {
     need(congee_live_owners_remove(map, 7, &old) == CONGEE_PRESENT && !old, "a removal that lends nothing");
     answers_next(2, 1);
     need(congee_live_owners_remove(map, 7, NULL) == CONGEE_ABSENT && answers == 0, "no key");
+    objects[1].references = 1;
+    need(congee_live_owners_insert(map, 7, &objects[1], NULL) == CONGEE_ABSENT, "a key again");
+    need(congee_live_owners_borrow(map, 7, NULL, &ticket) == CONGEE_PRESENT, "its ticket");
+    answers_next(2, 1);
+    old = &objects[2];
+    need(congee_live_owners_compare_remove(map, 7, ticket, &old) == CONGEE_PRESENT && !old, "one by ticket that lends nothing");
     congee_live_owners_free(map);
-    need(objects[0].references == 0, "the removed owner comes back");
+    need(objects[0].references == 0 && objects[1].references == 0, "the removed owners come back");
 }
 
 /* Look-ups, removals and the end of a map, which are busy for a while. */
@@ -268,6 +285,17 @@ static void call_busy(void) {
     answers_next(CONGEE_BUSY, 3);
     need(congee_live_owners_remove(map, 7, &owner) == CONGEE_PRESENT && owner == &objects[0] && answers == 0, "a removal waits");
     need(congee_live_owners_insert(map, 8, (objects[1].references = 1, &objects[1]), NULL) == CONGEE_ABSENT, "another key");
+    need(congee_live_owners_borrow(map, 8, NULL, &ticket) == CONGEE_PRESENT, "its ticket");
+    answers_next(CONGEE_BUSY, 1);
+    owner = NULL;
+    need(congee_live_owners_try_compare_remove(map, 8, ticket, &owner) == CONGEE_BUSY && !owner, "a busy removal by ticket");
+    answers_next(CONGEE_BUSY, 3);
+    need(congee_live_owners_compare_remove(map, 8, ticket, &owner) == CONGEE_PRESENT && owner == &objects[1] && answers == 0,
+         "a removal by ticket waits");
+    congee_live_owners_reclaim(map);
+    congee_live_owners_return(map);
+    need(congee_live_owners_reclaim(map) == 1 && objects[1].references == 0, "its owner comes back");
+    need(congee_live_owners_insert(map, 8, (objects[1].references = 1, &objects[1]), NULL) == CONGEE_ABSENT, "the key again");
     busy_drains = 3;
     congee_live_owners_clear(map);
     need(busy_drains == 0 && objects[0].references == 0 && objects[1].references == 0, "a clear waits");

@@ -143,6 +143,18 @@ static void exchange(struct worker *worker, uint64_t place, bool waits) {
     after(mine, code == CONGEE_PRESENT, code);
 }
 
+/* A removal by a ticket, which another thread may have replaced meanwhile. */
+static void take(struct worker *worker, uint64_t place) {
+    struct congee_live_owners *map = worker->map;
+    void *lent = NULL, *taken = NULL;
+    uint64_t ticket = 0;
+    if (congee_live_owners_borrow(map, key_of(place), &lent, &ticket) != CONGEE_PRESENT)
+        return;
+    reads(worker, place, lent, true);
+    if (congee_live_owners_compare_remove(map, key_of(place), ticket, &taken) == CONGEE_PRESENT)
+        need(taken == lent, "the object of the ticket");
+}
+
 /* One reference is held until it is replaced by another one. */
 static void hold(struct worker *worker, uint64_t place, uint64_t at, bool waits) {
     void *owner = NULL;
@@ -223,6 +235,9 @@ static void call(struct worker *worker, uint64_t place, uint64_t kind, uint64_t 
     case 9:
         search(worker, key, at % 2, at < 2);
         break;
+    case 11:
+        take(worker, place);
+        break;
     case 10:
         if (at == 0)
             congee_live_owners_each(map, 0, UINT64_MAX, visits, worker);
@@ -248,7 +263,7 @@ static void *churn(void *at) {
     struct worker *worker = at;
     uint64_t seed = first_seed * MOST + worker->id;
     for (uint64_t i = 0; i < turns; i++) {
-        uint64_t kind = next(&seed) % 14, place = next(&seed) % KEYS;
+        uint64_t kind = next(&seed) % 15, place = next(&seed) % KEYS;
         call(worker, place, kind, next(&seed) % HELD);
     }
     congee_live_owners_free(worker->map);

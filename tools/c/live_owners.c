@@ -79,10 +79,10 @@ static struct congee_live_owners *made(struct calls *calls) {
 
 /* -- A table of calls -- */
 
-enum kind { GET, BORROW, INSERT, REMOVE, EXCHANGE, KEEP };
+enum kind { GET, BORROW, INSERT, REMOVE, EXCHANGE, TAKE, KEEP };
 
-/* A call: with which key and object, what it returns, and the object that it writes, or NONE. An exchange takes the ticket of the
- * last loan. Afterwards, once loans are returned and owners have come back, an object has so many references. */
+/* A call: with which key and object, what it returns, and the object that it writes, or NONE. An exchange and a removal by ticket
+ * take the ticket of the last loan. Afterwards, once loans are returned and owners have come back, an object has so many references. */
 static const struct row {
     enum kind kind;
     uint64_t key;
@@ -123,6 +123,13 @@ static const struct row {
     {BORROW, 9, NONE, CONGEE_PRESENT, 3, 3, 1},
     {EXCHANGE, 9, 3, CONGEE_PRESENT, NONE, 3, 1},
     {REMOVE, 9, NONE, CONGEE_PRESENT, 3, 3, 0},
+    {INSERT, 9, 4, CONGEE_ABSENT, NONE, 4, 1},
+    {TAKE, 9, NONE, CONGEE_OTHER, NONE, 4, 1},
+    {BORROW, 9, NONE, CONGEE_PRESENT, 4, 4, 1},
+    {TAKE, 7, NONE, CONGEE_OTHER, NONE, 4, 1},
+    {TAKE, 6, NONE, CONGEE_OTHER, NONE, 4, 1},
+    {TAKE, 9, NONE, CONGEE_PRESENT, 4, 4, 0},
+    {TAKE, 9, NONE, CONGEE_OTHER, NONE, 4, 0},
     {REMOVE, 7, NONE, CONGEE_PRESENT, 2, 2, 0},
     {GET, 7, NONE, CONGEE_ABSENT, NONE, 2, 0},
 };
@@ -139,6 +146,8 @@ static int waits(struct congee_live_owners *map, const struct row *row, void *ow
         return congee_live_owners_remove(map, row->key, place);
     case EXCHANGE:
         return congee_live_owners_compare_exchange(map, row->key, *ticket, owner);
+    case TAKE:
+        return congee_live_owners_compare_remove(map, row->key, *ticket, place);
     default:
         return congee_live_owners_get_or_insert(map, row->key, owner, place);
     }
@@ -156,6 +165,8 @@ static int tries(struct congee_live_owners *map, const struct row *row, void *ow
         return congee_live_owners_try_remove(map, row->key, place);
     case EXCHANGE:
         return congee_live_owners_try_compare_exchange(map, row->key, *ticket, owner);
+    case TAKE:
+        return congee_live_owners_try_compare_remove(map, row->key, *ticket, place);
     default:
         return congee_live_owners_try_get_or_insert(map, row->key, owner, place);
     }

@@ -125,6 +125,13 @@ fn call<P: Made>(guard: &mut LiveOwnerGuard<P>, key: u64, kind: u64, number: u64
             }
         }
         11 => visit(guard, key, number % 4),
+        12 => {
+            if let Some(ticket) = guard.get(key).map(|it| it.ticket()) {
+                if let Some(taken) = guard.compare_remove(key, ticket) {
+                    assert!(taken.ticket() == ticket && taken.read(key) < u64::MAX);
+                }
+            }
+        }
         _ => {
             if let Some(loan) = guard.get(key) {
                 let number = loan.read(key);
@@ -180,7 +187,7 @@ fn churn<P: Made>() -> Result<(), Box<dyn Error>> {
                     call(
                         &mut guard,
                         key_of(place),
-                        next(&mut seed) % 14,
+                        next(&mut seed) % 15,
                         turn * THREADS + id,
                     );
                 }
@@ -294,12 +301,25 @@ fn one_by_one() -> Result<(), Box<dyn Error>> {
         .unwrap_err();
     assert_eq!(*refused.error(), ExchangeError::Other);
     assert!(Arc::ptr_eq(&refused.into_owner(), &first));
+    assert!(other.compare_remove(7, ticket).is_none() && other.get(7).is_some());
     // (a loan outlives its key, and is counted as one reference by what made it alone)
     while other.reclaim() > 0 {}
     assert!(loan.read(7) == 1 && Arc::strong_count(&first) == 2);
     drop(loan);
     while other.reclaim() > 0 {}
     assert_eq!(Arc::strong_count(&first), 1);
+    let last = other.get(7).unwrap().ticket();
+    assert!(
+        other.compare_remove(8, last).is_none() && other.try_compare_remove(8, last)?.is_none()
+    );
+    assert_eq!(
+        other.try_compare_remove(7, last)?.map(|it| it.read(7)),
+        Some(2)
+    );
+    assert!(one.get(7).is_none() && other.compare_remove(7, last).is_none());
+    while other.reclaim() > 0 {}
+    assert_eq!(Arc::strong_count(&second), 1);
+    until_made(|| one.insert(7, second.clone()).map(drop));
     one.meet(&mut other);
     let mut more = Vec::new();
     while let Ok(guard) = map.pin() {
@@ -511,7 +531,12 @@ fn waits() -> Result<(), Box<dyn Error>> {
                 .read(key),
             1
         );
-        assert_eq!(guard.remove(key).expect("the key").read(key), 1);
+        let ticket = guard.get(key).expect("the key").ticket();
+        let removed = guard.compare_remove(key, ticket).expect("the key");
+        assert_eq!(removed.read(key), 1);
+        drop(removed);
+        assert!(guard.insert_absent(key, new(2))?.is_none());
+        assert_eq!(guard.remove(key).expect("the key").read(key), 2);
         assert!(guard.insert_absent(key, new(3))?.is_none());
     }
     let (mut up, mut down) = (0, 100);

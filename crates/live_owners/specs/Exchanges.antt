@@ -18,6 +18,15 @@ ExchangesOwner key old owner k before n = (ticket : ℕ) × IsNew k.owners ticke
 abbrev pub LosesExchange : ℕ → ℕ → OwnersKnown → OwnersKnown → Type 0
 LosesExchange key old k n = (ticket : ℕ) × (found : Option ℕ) × MadeCall k.tickets (swapped k.tickets.caller key old (Some ticket) (Err found)) n.tickets
 
+-- A KEY'S TICKET `old` WAS TAKEN OUT, since the key had it still
+abbrev pub RemovesTicket : ℕ → ℕ → OwnersKnown → Previous → OwnersKnown → Type 0
+RemovesTicket key old k before n = MadeCall k.tickets (swapped k.tickets.caller key old None (Ok None)) n.tickets
+    × (before.ticket ≡ old) × IsPrevious n.owners before × RetiresOnly k.owners n.owners (Some old)
+
+-- A REMOVAL WAS LOST: the key had another ticket, or none
+abbrev pub LosesRemoval : ℕ → ℕ → OwnersKnown → OwnersKnown → Type 0
+LosesRemoval key old k n = (found : Option ℕ) × MadeCall k.tickets (swapped k.tickets.caller key old None (Err found)) n.tickets
+
 -- THE KEY WAS ABSENT, by a look-up after others in vain
 abbrev pub WasAbsent : ℕ → Known → Known → Type 0
 WasAbsent key k n = (last : Known) × LookedInVain key k last × MadeCall last (got (ask last.caller key 0 0) None) n

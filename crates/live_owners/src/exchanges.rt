@@ -1,7 +1,7 @@
-//! Exchanges by ticket, and `get_or_insert`.
+//! Exchanges and removals by ticket, and `get_or_insert`.
 ghost use Rattle.std.specs.Prelude.{◌≡◌, Some, IfOk, IfErr, IfSome, IfNone, OnOk, OnErr};
 ghost use Rattle.live_owners.specs.Owners.{IsHandleOf, KnowsMore, GetsOwner, NoneComesBack, RetiresNone, IsBack};
-ghost use Rattle.live_owners.specs.Exchanges.{ExchangesOwner, LosesExchange, Adds, AddsOwner, StoresNone, AddsNone};
+ghost use Rattle.live_owners.specs.Exchanges.{ExchangesOwner, LosesExchange, RemovesTicket, LosesRemoval, Adds, AddsOwner, StoresNone, AddsNone};
 
 use crate::handle::{Lent, OwnersHandle, Previous};
 use crate::map::LiveOwners;
@@ -47,6 +47,33 @@ impl LiveOwners {
             Ok(Ok(_)) => Ok(Ok(self.retire(handle, ticket))),
             Ok(Err(_)) => Ok(Err(self.withdraw(handle, new, owner))),
             Err(Busy) => Err((Refusal::Busy, self.withdraw(handle, new, owner))),
+        }
+    }
+
+    /// If the key still has this ticket, removes the key, and returns the ticket, whose owner is lent to the handle then. `None` where
+    /// the key has another ticket, or is absent. Needs no memory. `Busy` if too many writers came in between.
+    #[tactic(auto, using(crate::proofs::Steps::more_none, crate::proofs::Steps::more_on))]
+    pub fn compare_remove(
+        &self,
+        handle: &mut OwnersHandle,
+        key: u64,
+        ticket: u64,
+    ) -> Result<Option<Previous>, Busy>
+        requires map { IsHandleOf self.now handle.old }
+        ensures map { KnowsMore handle.old handle.new }
+        ensures reclaimed { NoneComesBack handle.old.owners handle.new.owners }
+        ensures made { IfOk result (λ before. IfSome before (λ before.
+            RemovesTicket key ticket handle.old before handle.new)) }
+        ensures other { IfOk result (λ before. IfNone before
+            (LosesRemoval key ticket handle.old handle.new)) }
+        ensures busy { OnErr result (handle.new ≡ handle.old) }
+    {
+        match self
+            .pool
+            .compare_exchange(&mut handle.guard, key, ticket, None)?
+        {
+            Ok(_) => Ok(Some(self.retire(handle, ticket))),
+            Err(_) => Ok(None),
         }
     }
 

@@ -4,8 +4,8 @@
 //! numbers that are issued once, and the owners lie in a table under these tickets (`word_owners`).
 //!
 //! - `get` lends the owner of a key to the handle. Until the loan ends the owner comes back to nobody, whoever removes the key.
-//! - `insert`, `remove` and `compare_exchange` retire the ticket that left the map, and lend its owner to the handle first. So a
-//!   caller sees what was there before.
+//! - `insert`, `remove`, `compare_exchange` and `compare_remove` retire the ticket that left the map, and lend its owner to the
+//!   handle first. So a caller sees what was there before.
 //! - `get_or_insert` lends what is there, or stores an owner.
 //! - `ceiling`, `floor` and pages have keys with their tickets, and `lend` has the owner of a ticket.
 //! - `reclaim` returns an owner that left the map and that no handle has lent, each once: now it can be released. `drain` empties

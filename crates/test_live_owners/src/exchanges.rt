@@ -1,4 +1,4 @@
-//! Exchanges by ticket, and `get_or_insert`, by one thread.
+//! Exchanges and removals by ticket, and `get_or_insert`, by one thread.
 ghost use Rattle.std.specs.Prelude.{◌≡◌};
 ghost use Rattle.live_owners.specs.Owners.{IsHandleOf};
 
@@ -45,13 +45,41 @@ fn exchanged(alloc: Global, map: &LiveOwners, handle: &mut OwnersHandle) -> bool
     all(&[made, kept, lost, back])
 }
 
+// The key is removed by its own ticket alone.
+fn removed(map: &LiveOwners, handle: &mut OwnersHandle) -> bool
+    requires { IsHandleOf map.now handle.old }
+    ensures { IsHandleOf map.now handle.new }
+{
+    let Ok(Some(lent)) = map.get(handle, 5) else {
+        return false;
+    };
+    let ticket = lent.ticket;
+    let before = Previous {
+        ticket,
+        owner: Some(43),
+    };
+    let steps = [
+        map.compare_remove(handle, 5, SECOND) == Ok(None),
+        map.compare_remove(handle, 6, ticket) == Ok(None),
+        map.compare_remove(handle, 5, ticket) == Ok(Some(before)),
+        map.compare_remove(handle, 5, ticket) == Ok(None),
+        map.get(handle, 5) == Ok(None),
+    ];
+    all(&steps)
+}
+
 fn in_turn(alloc: Global, map: &LiveOwners) -> Option<(u64, u64)> {
     let mut handle = handle_of(alloc, map)?;
     let added = added(alloc, map, &mut handle);
     let exchanged = exchanged(alloc, map, &mut handle);
+    let removed = removed(map, &mut handle);
     let left = drained(map, &mut handle);
     map.leave(handle);
-    if added && exchanged { Some(left) } else { None }
+    if added && exchanged && removed {
+        Some(left)
+    } else {
+        None
+    }
 }
 
 #[test]

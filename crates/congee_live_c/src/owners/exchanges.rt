@@ -1,16 +1,18 @@
-//! Exchanges by ticket, and `get_or_insert`.
+//! Exchanges and removals by ticket, and `get_or_insert`.
 //!
 //! Tested in `tools/c-library`.
 
 ghost use Rattle.std.specs.Prelude.{◌≡◌, ◌≢◌, ◌⊎◌, None, Some, IfSome, pos};
 ghost use Rattle.live_owners.specs.Owners.{KnowsMore, GetsOwner, NoneComesBack, RetiresNone, IsBack};
-ghost use Rattle.live_owners.specs.Exchanges.{ExchangesOwner, LosesExchange, AddsOwner, AddsNone};
-ghost use Rattle.congee_live_c.specs.Answer.{IsRefusal};
+ghost use Rattle.live_owners.specs.Exchanges.{ExchangesOwner, LosesExchange, RemovesTicket, LosesRemoval, AddsOwner, AddsNone};
+ghost use Rattle.congee_live_c.specs.Answer.{IsRefusal, busy};
 ghost use Rattle.congee_live_c.specs.Owners.{lent_of, IfTaken, IfRefused};
 
 use super::Lent;
 use super::handle::Handle;
 use super::updates::{answer_refusal, answer_taken};
+use crate::BUSY;
+use live_growth::map::Busy;
 use std::alloc::Global;
 
 /// If the key still has this ticket, stores an owner in its place and answers 1: the ticket and its owner, which is lent to the
@@ -54,6 +56,34 @@ pub extern "C" fn congee_c_live_owners_compare_exchange(
         Ok(Err(Some(_))) => 0,
         Ok(Err(None)) => 3,
         Err(refused) => answer_refusal(refused),
+    }
+}
+
+/// If the key still has this ticket, removes the key and answers 1: the ticket and its owner, which is lent to the handle then, are
+/// written to `before`. Answers 2 where another handle had retired the ticket before: `before` has the ticket, and 0 as its owner.
+/// Answers 0 where the key has another ticket or none, or `BUSY`. Needs no memory.
+#[unsafe(no_mangle)]
+pub extern "C" fn congee_c_live_owners_compare_remove(
+    handle: &mut Handle,
+    key: u64,
+    ticket: u64,
+    before: &mut Lent,
+) -> i32
+    ensures code { (result ≡ pos 0) ⊎ (result ≡ pos 1) ⊎ (result ≡ pos 2) ⊎ (result ≡ busy) }
+    ensures map { KnowsMore handle.old.held handle.new.held }
+    ensures reclaimed { NoneComesBack handle.old.held.owners handle.new.held.owners }
+    ensures made { IfTaken result before.new (λ taken. IfSome taken (λ before.
+        RemovesTicket key ticket handle.old.held before handle.new.held)) }
+    ensures other { result ≡ pos 0
+        → LosesRemoval key ticket handle.old.held handle.new.held }
+    ensures missed { result ≡ busy → handle.new.held ≡ handle.old.held }
+    ensures kept { result ≢ pos 1 → result ≢ pos 2 → before.new ≡ before.old }
+    ensures place { handle.new.ptr ≡ handle.old.ptr }
+{
+    let held = handle.as_mut();
+    match held.map.compare_remove(&mut held.handle, key, ticket) {
+        Ok(taken) => answer_taken(taken, before),
+        Err(Busy) => BUSY,
     }
 }
 
