@@ -568,8 +568,10 @@ public:
 
     handle(const handle &other) { made(C::another(other.map_, &map_)); }
     handle(handle &&other) noexcept : map_(std::exchange(other.map_, nullptr)) {}
-    handle &operator=(handle other) noexcept {
-        std::swap(map_, other.map_);
+    handle &operator=(const handle &other) { return *this = handle(other); }
+    handle &operator=(handle &&other) noexcept {
+        handle taken(std::move(other));
+        std::swap(map_, taken.map_);
         return *this;
     }
     ~handle() { C::free(map_); }
