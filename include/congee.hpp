@@ -997,6 +997,40 @@ public:
             CONGEE_YIELD();
         return lent(key, code, before);
     }
+    /* Finds the least key (first), the greatest key (last), the least key from `key` on (ceiling) or above `key`, or the
+     * greatest key up to `key` (floor) or below `key`. Lends the key's object, or returns none if the call found no such key.
+     * loan::key has the key. The key had that object at a moment of the call, and no key between the two was present
+     * throughout the call. Takes no lock and no memory. */
+    loan first() { return found(congee_live_owners_first); }
+    loan last() { return found(congee_live_owners_last); }
+    loan ceiling(std::uint64_t key) { return found(congee_live_owners_ceiling, key); }
+    loan above(std::uint64_t key) { return found(congee_live_owners_above, key); }
+    loan floor(std::uint64_t key) { return found(congee_live_owners_floor, key); }
+    loan below(std::uint64_t key) { return found(congee_live_owners_below, key); }
+    /* Calls the function with each key from first to last, keys ascending, and with a reference to the key's object. The call
+     * reads pages of 64 keys. Each key is read at a moment of its own, and each key that is present throughout the call is
+     * among them. The object is lent while the function runs, until the function calls the map by this handle. */
+    template <class F> void each(std::uint64_t first, std::uint64_t last, F f) {
+        const loan visited = of_visits();
+        congee_live_owners_each(handle_->map, first, last, visit<F>, &f);
+    }
+    template <class F> void each(F f) { each(0, UINT64_MAX, f); }
+    /* Calls the function with each key from last down to first, keys descending, and with a reference to the key's object. The
+     * call is as `each` otherwise. */
+    template <class F> void each_descending(std::uint64_t first, std::uint64_t last, F f) {
+        const loan visited = of_visits();
+        congee_live_owners_each_descending(handle_->map, first, last, visit<F>, &f);
+    }
+    template <class F> void each_descending(F f) { each_descending(0, UINT64_MAX, f); }
+    /* Returns the keys from first to last, keys ascending. The call reads pages of 64 keys. */
+    std::vector<std::uint64_t> keys(std::uint64_t first = 0, std::uint64_t last = UINT64_MAX) {
+        std::vector<std::uint64_t> all;
+        each(first, last, [&all](std::uint64_t key, const object &) { all.push_back(key); });
+        return all;
+    }
+    /* Returns whether the map has no key, and how many keys the map has. The count is exact where no other thread writes. */
+    bool empty() { return congee_live_owners_is_empty(handle_->map); }
+    std::uint64_t size() { return congee_live_owners_count(handle_->map); }
     /* Removes all keys, one by one, and destroys the objects that no handle has lent. */
     void clear() { congee_live_owners_clear(handle_->map); }
     /* Gives up the map's owner of each object that left the map by this handle, or by a handle that was freed, and that no
@@ -1025,6 +1059,20 @@ private:
     enum : int { unlent = 2, oom_kept = -4, busy_kept = -5, other_kept = 3 };
     static bool is_replaced(int code) noexcept { return code == CONGEE_PRESENT || code == unlent; }
 
+    /* The loan of a search of the header, from `key` if it takes one. */
+    template <class F, class... K> loan found(F search, K... key) {
+        std::uint64_t at = 0, ticket = 0;
+        void *owner = nullptr;
+        if (search(handle_->map, key..., &at, &owner, &ticket) != CONGEE_PRESENT)
+            return loan();
+        return loan(handle_.get(), at, ticket, owner);
+    }
+    /* Ends the loan of a visit whose function throws. (The loan has no object itself.) */
+    loan of_visits() { return loan(handle_.get(), 0, 0, nullptr); }
+    template <class F> static int visit(std::uint64_t key, void *owner, void *f) {
+        (*static_cast<F *>(f))(key, *P::object_of(owner));
+        return 0;
+    }
     /* The loan of a call that returned this code. */
     loan lent(std::uint64_t key, int code, const congee_lent &found) {
         if (code != CONGEE_PRESENT)

@@ -1,6 +1,7 @@
 // The classes of maps of objects of congee.hpp, over objects that count how many were made and destroyed. After each part as many
 // are destroyed as were made.
 //   - each call by hand, of std::shared_ptr and of std::unique_ptr, and after each how many objects are left
+//   - ends, neighbours and visits, and that what they lend isn't destroyed
 //   - loans: they outlive a removal and a move of their handle, and end with the handle's next call. One that has ended by then
 //     doesn't end the next one
 //   - what a refused insertion was handed is the caller's still. 64 handles, and no more
@@ -193,6 +194,58 @@ template <class M> static void loans() {
     loan = typename M::loan();
 }
 
+// Keys in their order, and their objects.
+template <class M> static void in_order() {
+    M map, other = map;
+    using numbers = std::vector<std::uint64_t>;
+    CHECK(!map.first() && !map.last() && !map.ceiling(0) && !map.floor(UINT64_MAX) && map.empty() && map.size() == 0);
+    for (const std::uint64_t key : {9u, 5u, 7u})
+        map.insert_or_assign(key, fresh<M>(key, 10 * key));
+    map.insert_or_assign(UINT64_MAX, fresh<M>(UINT64_MAX, 1));
+    CHECK(map.first().key() == 5 && map.first()->read(5) == 50 && map.last()->read(UINT64_MAX) == 1);
+    CHECK(map.last().key() == UINT64_MAX);
+    CHECK(map.ceiling(6)->read(7) == 70 && map.ceiling(7).key() == 7 && map.above(7)->read(9) == 90 && !map.above(UINT64_MAX));
+    CHECK(map.floor(8)->read(7) == 70 && map.floor(7).key() == 7 && map.below(7)->read(5) == 50 && !map.below(5) && !map.floor(4));
+    CHECK(map.ceiling(6).ticket() == map.borrow(7).ticket() && !map.empty() && map.size() == 4);
+    CHECK(map.keys() == (numbers{5, 7, 9, UINT64_MAX}) && map.keys(6, 9) == (numbers{7, 9}) && map.keys(9, 6).empty());
+    {
+        // (a search lends)
+        const auto loan = map.above(5);
+        CHECK(other.erase(7) && other.reclaim() == 0 && loan->read(7) == 70);
+    }
+    CHECK(other.reclaim() == 1 && left() == 3);
+    for (std::uint64_t key = 0; key < 300; key++)
+        map.insert_or_assign(key << 30, fresh<M>(key << 30, key));
+    std::uint64_t next = 10, count = 0;
+    map.each(std::uint64_t{10} << 30, std::uint64_t{209} << 30, [&](std::uint64_t key, counted &it) {
+        CHECK(key == next << 30 && it.read(key) == next);
+        next++;
+        // (what is lent isn't destroyed, and what is gone isn't visited)
+        if (next % 2)
+            CHECK(other.erase(key) && other.reclaim() == (count > 0));
+        count++;
+    });
+    CHECK(next == 210 && count == 200 && other.reclaim() == 1 && map.size() == 203);
+    next = UINT64_MAX;
+    map.each_descending([&next](std::uint64_t key, const counted &it) {
+        CHECK((next == UINT64_MAX || key < next) && it.read(key) <= 300);
+        next = key;
+    });
+    CHECK(next == 0 && map.keys().size() == 203);
+    map.each_descending(7, 6, [](std::uint64_t, counted &) { CHECK(false); });
+    // (no loan is left of a function that throws, and one that was made before isn't that of a visit)
+    auto before = map.first();
+    CHECK(throws<std::out_of_range>([&] { map.each([](std::uint64_t, counted &) { throw std::out_of_range("first"); }); }));
+    CHECK(other.erase(0) && other.reclaim() == 1 && map.size() == 202);
+    map.each([&](std::uint64_t key, counted &it) {
+        before = typename M::loan();
+        CHECK(key >= 5);
+        if (key == 5)
+            CHECK(other.erase(5) && other.reclaim() == 0 && it.read(5) == 50);
+    });
+    CHECK(other.reclaim() == 1);
+}
+
 // Counts of references, and what only a std::shared_ptr can do.
 static void references() {
     std::shared_ptr<counted> held = std::make_shared<derived>(), more;
@@ -351,7 +404,7 @@ public:
     void call() {
         const std::uint64_t place = dice_() % KEYS, key = key_of(place);
         try {
-            one_of(dice_() % 10, place, key);
+            one_of(dice_() % 12, place, key);
         } catch (const std::bad_alloc &) {
             refused_++;
         }
@@ -385,6 +438,14 @@ private:
         case 6:
             hold(place, key);
             break;
+        case 8:
+            map_.each([](std::uint64_t found, const counted &it) { CHECK(it.read(found) > 0); });
+            break;
+        case 9: {
+            const auto loan = number_ % 2 ? map_.ceiling(key) : map_.floor(key);
+            CHECK(!loan || loan->read(loan.key()) > 0);
+            break;
+        }
         default: {
             const auto loan = map_.borrow(key);
             sees(place, loan);
@@ -497,6 +558,7 @@ template <class M> static void all_of(bool is_stand_in) {
     part(by_hand<M>);
     part(waiting<M>);
     part(loans<M>);
+    part(in_order<M>);
     part(refusals<M>);
     if (!is_stand_in)
         part(at_a_limit<M>);
