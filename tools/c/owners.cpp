@@ -310,6 +310,20 @@ static void destructors() {
     calls_back::by = nullptr;
 }
 
+// An object that has a map of its own kind.
+struct node {
+    congee_cpp::live_owners<node> below;
+    counted it{0, 0};
+};
+
+static void nodes() {
+    congee_cpp::live_owners<node> root;
+    auto inner = std::make_shared<node>();
+    inner->below.insert_or_assign(8, std::make_shared<node>());
+    root.insert_or_assign(7, std::move(inner));
+    CHECK(root.get(7)->below.borrow(8)->below.empty() && left() == 2);
+}
+
 template <class M> static void refusals() {
     CHECK(throws<std::bad_alloc>([] { M(4095); }));
     M map(4096);
@@ -583,6 +597,7 @@ int main(int count, char **words) {
         all_of<boxes>(is_stand_in);
         part(references);
         part(destructors);
+        part(nodes);
     }
     std::printf("%ld objects, each destroyed once\n", made.load());
 }
