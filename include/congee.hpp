@@ -4,6 +4,8 @@
  *     and no references.
  *   - congee_cpp::live_map: a map that threads share and read without a lock, by an object for each thread.
  *   - congee_cpp::shared_map: a map that threads share under one lock or in 64 shards, by an object for each thread.
+ *   - congee_cpp::live_owners<T>, congee_cpp::live_boxes<T>: maps from keys to objects that threads share and look up without
+ *     a lock, by a handle for each thread. The map owns an object by a std::shared_ptr<T>, or by a std::unique_ptr<T>.
  *
  * What the library's own functions return is proved (congee.h). The classes are C++ around the functions of the headers in C,
  * and are tested.
@@ -13,12 +15,14 @@
  *
  * If malloc finds no memory or the limit is reached, a call throws std::bad_alloc, and no pair has changed. In programs
  * without exceptions (-fno-exceptions) the call ends the program by std::abort. try_new and try_insert_or_assign don't
- * throw: without memory the first returns none, and the second CONGEE_OOM. */
+ * throw: without memory the first returns none, and the second CONGEE_OOM. The copy of a handle throws std::length_error
+ * if a map of objects has 64 handles. */
 #ifndef CONGEE_HPP
 #define CONGEE_HPP
 
 #include "congee.h"
 #include "congee_live.h"
+#include "congee_owners.h"
 #include "congee_shared.h"
 
 #include <cstddef>
@@ -26,6 +30,7 @@
 #include <cstdlib>
 #include <initializer_list>
 #include <iterator>
+#include <memory>
 #include <new>
 #include <optional>
 #include <stdexcept>
@@ -53,6 +58,14 @@ inline int made(int code) {
 [[noreturn]] inline void no_key() {
 #ifdef __cpp_exceptions
     throw std::out_of_range("congee_cpp: there is no such key");
+#else
+    std::abort();
+#endif
+}
+
+[[noreturn]] inline void full() {
+#ifdef __cpp_exceptions
+    throw std::length_error("congee_cpp: the map has 64 handles");
 #else
     std::abort();
 #endif
@@ -555,8 +568,10 @@ public:
 
     handle(const handle &other) { made(C::another(other.map_, &map_)); }
     handle(handle &&other) noexcept : map_(std::exchange(other.map_, nullptr)) {}
-    handle &operator=(handle other) noexcept {
-        std::swap(map_, other.map_);
+    handle &operator=(const handle &other) { return *this = handle(other); }
+    handle &operator=(handle &&other) noexcept {
+        handle taken(std::move(other));
+        std::swap(map_, taken.map_);
         return *this;
     }
     ~handle() { C::free(map_); }
@@ -801,6 +816,330 @@ public:
 
 private:
     explicit shared_map(std::nullptr_t) {}
+};
+
+namespace inner {
+
+/* How a map stores a std::shared_ptr: by a copy in a block of its own, whose address the library has. */
+template <class T> struct by_shared_ptr {
+    using object = T;
+    using pointer = std::shared_ptr<T>;
+    /* Returns what the library is handed, or null if there is no memory. */
+    static void *offered(const pointer &owner) noexcept { return new (std::nothrow) pointer(owner); }
+    /* After an insertion: the library has stored what it was handed, has refused that, or keeps it for a while. */
+    static void stored(pointer &owner) noexcept { owner.reset(); }
+    static void refused(void *owner) noexcept { release(owner, nullptr); }
+    static void kept(pointer &) noexcept {}
+    static void release(void *owner, void *) noexcept { delete static_cast<pointer *>(owner); }
+    static T *object_of(void *owner) noexcept { return owner ? static_cast<pointer *>(owner)->get() : nullptr; }
+    static pointer shared(void *owner) noexcept { return owner ? *static_cast<pointer *>(owner) : pointer(); }
+};
+
+/* How a map stores a std::unique_ptr: by the address of the object. */
+template <class T> struct by_unique_ptr {
+    using object = T;
+    using pointer = std::unique_ptr<T>;
+    static void *offered(const pointer &owner) noexcept { return const_cast<std::remove_cv_t<T> *>(owner.get()); }
+    static void stored(pointer &owner) noexcept { (void)owner.release(); }
+    static void refused(void *) noexcept {}
+    static void kept(pointer &owner) noexcept { (void)owner.release(); }
+    static void release(void *owner, void *) noexcept { delete object_of(owner); }
+    static T *object_of(void *owner) noexcept { return static_cast<T *>(owner); }
+};
+
+/* What a loan reaches its handle by, also after the handle was moved. */
+struct lending_handle {
+    congee_live_owners *map = nullptr;
+    /* How many loans were made. */
+    std::uint64_t loans = 0;
+    lending_handle() = default;
+    lending_handle(const lending_handle &) = delete;
+    lending_handle &operator=(const lending_handle &) = delete;
+    ~lending_handle() { congee_live_owners_free(map); }
+};
+
+/* A handle of a map of objects that threads share, an object for each thread. A copy is one more handle, of which a map has 64
+ * at most. Copying is a call of the first handle, so a thread's copy is made before the thread starts. Calls wait while they
+ * are busy (congee_owners.h).
+ *
+ * Several threads may read an object at once. The map destroys an object that was removed or replaced once no handle has the
+ * object lent: within a call of any handle, on that call's thread, outside of any lock. The destructor may call the map by
+ * other handles. The last handle of a map destroys all objects that are left. */
+template <class P> class owner_handle {
+public:
+    using key_type = std::uint64_t;
+    using mapped_type = typename P::pointer;
+    using native_type = congee_live_owners;
+    using object = typename P::object;
+    using pointer = typename P::pointer;
+
+    owner_handle() : owner_handle(UINT64_MAX) {}
+    /* A map whose nodes take at most `limit` bytes together (congee_live_owners_new_with_limit). */
+    explicit owner_handle(std::uint64_t limit) : handle_(new lending_handle) {
+        made(congee_live_owners_new_with_limit(&handle_->map, limit, nullptr, P::release, nullptr));
+    }
+    /* Makes one more handle, or throws std::length_error if the map has 64 handles. */
+    owner_handle(const owner_handle &other) : handle_(new lending_handle) {
+        const int code = congee_live_owners_another(other.handle_->map, &handle_->map);
+        code == CONGEE_FULL ? full() : void(made(code));
+    }
+    owner_handle(owner_handle &&other) noexcept = default;
+    owner_handle &operator=(const owner_handle &other) { return *this = owner_handle(other); }
+    owner_handle &operator=(owner_handle &&other) noexcept = default;
+
+    /* An object that the handle has lent, or none. Nobody destroys the object until the loan ends, whoever removes the key. A
+     * loan ends when it is destroyed, and with the handle's next call that looks up or changes a key. After that call the
+     * object isn't read by the loan any more. A loan is used by the thread of its handle, and while the handle lasts. */
+    class loan {
+    public:
+        loan() = default;
+        loan(loan &&other) noexcept
+            : from_(std::exchange(other.from_, nullptr)), number_(other.number_), key_(other.key_), ticket_(other.ticket_),
+              owner_(std::exchange(other.owner_, nullptr)) {}
+        loan &operator=(loan other) noexcept {
+            std::swap(from_, other.from_);
+            std::swap(number_, other.number_);
+            std::swap(key_, other.key_);
+            std::swap(ticket_, other.ticket_);
+            std::swap(owner_, other.owner_);
+            return *this;
+        }
+        ~loan() {
+            /* (the next loan has ended this one, and isn't ended by it) */
+            if (from_ && from_->loans == number_)
+                congee_live_owners_return(from_->map);
+        }
+        /* Whether there is an object. */
+        explicit operator bool() const { return owner_ != nullptr; }
+        object &operator*() const { return *get(); }
+        object *operator->() const { return get(); }
+        object *get() const { return P::object_of(owner_); }
+        std::uint64_t key() const { return key_; }
+        /* The ticket of the insertion that stored the object, by which compare_exchange replaces the object. */
+        std::uint64_t ticket() const { return ticket_; }
+        /* Returns a further owner, which outlives the loan, or null if there is no object. live_owners alone has this call. */
+        pointer shared() const { return P::shared(owner_); }
+
+    private:
+        friend class owner_handle;
+        loan(lending_handle *from, std::uint64_t key, std::uint64_t ticket, void *owner)
+            : from_(from), number_(++from->loans), key_(key), ticket_(ticket), owner_(owner) {}
+        lending_handle *from_ = nullptr;
+        std::uint64_t number_ = 0, key_ = 0, ticket_ = 0;
+        void *owner_ = nullptr;
+    };
+
+    /* Lends the key's object, or returns none if the key is absent. Takes no lock and no memory. */
+    loan borrow(std::uint64_t key) {
+        void *owner = nullptr;
+        std::uint64_t ticket = 0;
+        if (congee_live_owners_borrow(handle_->map, key, &owner, &ticket) != CONGEE_PRESENT)
+            return loan();
+        return loan(handle_.get(), key, ticket, owner);
+    }
+    bool contains(std::uint64_t key) { return congee_live_owners_get(handle_->map, key, nullptr) != CONGEE_ABSENT; }
+    /* Stores the object at the key, and returns whether the key is new. The owner that is handed in isn't null. The owner is
+     * null afterwards, and unchanged if the call throws. (A std::unique_ptr may be null then, too: the library keeps the object
+     * for a while, and a later call destroys the object. No test of the library has met that.) */
+    bool insert_or_assign(std::uint64_t key, pointer &&owner) {
+        return made(try_insert_or_assign(key, std::move(owner))) == CONGEE_ABSENT;
+    }
+    /* Stores the object at the key. Returns CONGEE_ABSENT for a new key, CONGEE_PRESENT for a present key, or CONGEE_OOM with
+     * no key changed. If the object is stored, the owner that is handed in is null afterwards, and otherwise unchanged. */
+    int try_insert_or_assign(std::uint64_t key, pointer &&owner) noexcept {
+        congee_lent before = {0, 0};
+        const int code = offer(
+            owner, [](int returned) { return returned >= 0; },
+            [key, &before](congee_live_owners_handle *handle, std::uint64_t offered) {
+                return congee_c_live_owners_insert(handle, key, offered, &before);
+            });
+        if (code <= 0)
+            return code;
+        congee_live_owners_return(handle_->map);
+        return CONGEE_PRESENT;
+    }
+    /* Lends the key's object, and leaves the owner that is handed in unchanged. If the key is absent, stores that owner, which
+     * is null afterwards, and returns none. Of several handles that insert one absent key at once, the first gets none. */
+    loan get_or_insert(std::uint64_t key, pointer &&owner) {
+        congee_lent present = {0, 0};
+        const int code = made(offer(
+            owner, [](int returned) { return returned == CONGEE_ABSENT; },
+            [key, &present](congee_live_owners_handle *handle, std::uint64_t offered) {
+                return congee_c_live_owners_get_or_insert(handle, key, offered, &present);
+            }));
+        return lent(key, code, present);
+    }
+    /* Replaces the key's object and returns true, if the key still has this ticket (loan::ticket). The owner that is handed in
+     * is null then. Otherwise returns false, and leaves the owner unchanged. The ticket decides, and not the address: after a
+     * removal and an insertion of one object the key has another ticket. */
+    bool compare_exchange(std::uint64_t key, std::uint64_t ticket, pointer &&owner) {
+        congee_lent before = {0, 0};
+        const int code = made(offer(
+            owner, is_replaced,
+            [key, ticket, &before](congee_live_owners_handle *handle, std::uint64_t offered) {
+                return congee_c_live_owners_compare_exchange(handle, key, ticket, offered, &before);
+            }));
+        if (!is_replaced(code))
+            return false;
+        congee_live_owners_return(handle_->map);
+        return true;
+    }
+    /* Removes the key. Returns whether the key was present. */
+    bool erase(std::uint64_t key) { return congee_live_owners_remove(handle_->map, key, nullptr) != CONGEE_ABSENT; }
+    /* Removes the key, and lends the removed object, or returns none if the key was absent. (None, too, if the library can't
+     * lend the object, which no test has met.) */
+    loan take(std::uint64_t key) {
+        congee_live_owners *map = handle_->map;
+        congee_lent before = {0, 0};
+        int code;
+        congee_owners_tidy(map);
+        while ((code = congee_c_live_owners_remove(&map->handle, key, &before)) == CONGEE_BUSY)
+            CONGEE_YIELD();
+        return lent(key, code, before);
+    }
+    /* Finds the least key (first), the greatest key (last), the least key from `key` on (ceiling) or above `key`, or the
+     * greatest key up to `key` (floor) or below `key`. Lends the key's object, or returns none if the call found no such key.
+     * loan::key has the key. The key had that object at a moment of the call, and no key between the two was present
+     * throughout the call. Takes no lock and no memory. */
+    loan first() { return found(congee_live_owners_first); }
+    loan last() { return found(congee_live_owners_last); }
+    loan ceiling(std::uint64_t key) { return found(congee_live_owners_ceiling, key); }
+    loan above(std::uint64_t key) { return found(congee_live_owners_above, key); }
+    loan floor(std::uint64_t key) { return found(congee_live_owners_floor, key); }
+    loan below(std::uint64_t key) { return found(congee_live_owners_below, key); }
+    /* Calls the function with each key from first to last, keys ascending, and with a reference to the key's object. The call
+     * reads pages of 64 keys. Each key is read at a moment of its own, and each key that is present throughout the call is
+     * among them. The object is lent while the function runs, until the function calls the map by this handle. */
+    template <class F> void each(std::uint64_t first, std::uint64_t last, F f) {
+        const loan visited = of_visits();
+        congee_live_owners_each(handle_->map, first, last, visit<F>, &f);
+    }
+    template <class F> void each(F f) { each(0, UINT64_MAX, f); }
+    /* Calls the function with each key from last down to first, keys descending, and with a reference to the key's object. The
+     * call is as `each` otherwise. */
+    template <class F> void each_descending(std::uint64_t first, std::uint64_t last, F f) {
+        const loan visited = of_visits();
+        congee_live_owners_each_descending(handle_->map, first, last, visit<F>, &f);
+    }
+    template <class F> void each_descending(F f) { each_descending(0, UINT64_MAX, f); }
+    /* Returns the keys from first to last, keys ascending. The call reads pages of 64 keys. */
+    std::vector<std::uint64_t> keys(std::uint64_t first = 0, std::uint64_t last = UINT64_MAX) {
+        std::vector<std::uint64_t> all;
+        each(first, last, [&all](std::uint64_t key, const object &) { all.push_back(key); });
+        return all;
+    }
+    /* Returns whether the map has no key, and how many keys the map has. The count is exact where no other thread writes. */
+    bool empty() { return congee_live_owners_is_empty(handle_->map); }
+    std::uint64_t size() { return congee_live_owners_count(handle_->map); }
+    /* Removes all keys, one by one, and destroys the objects that no handle has lent. */
+    void clear() { congee_live_owners_clear(handle_->map); }
+    /* Gives up the map's owner of each object that left the map by this handle, or by a handle that was freed, and that no
+     * handle has lent. Returns how many owners. Insertions and removals make this call, once 64 owners wait. */
+    std::uint64_t reclaim() { return congee_live_owners_reclaim(handle_->map); }
+    /* The bytes that count against the limit, and the limit, UINT64_MAX for none. */
+    std::uint64_t charged() { return usage().first; }
+    std::uint64_t limit() { return congee_live_owners_limit(handle_->map); }
+    /* The bytes that count against the limit, and the limit, as a pair. */
+    pair usage() {
+        pair it = {0, 0};
+        congee_live_owners_usage(handle_->map, &it.first, &it.second);
+        return it;
+    }
+    /* Orders two handles of one map in time: both have then seen all that either had seen. */
+    void meet(owner_handle &other) { congee_live_owners_meet(handle_->map, other.handle_->map); }
+    /* Returns the handle in C, for calls that the class doesn't have. A loan that was made before isn't used any more. */
+    native_type *native() {
+        handle_->loans++;
+        return handle_->map;
+    }
+
+private:
+    /* What the library returns beside the codes of congee.h: an owner was replaced, and isn't lent. Or an owner wasn't stored,
+     * and the library keeps that owner for a while. */
+    enum : int { unlent = 2, oom_kept = -4, busy_kept = -5, other_kept = 3 };
+    static bool is_replaced(int code) noexcept { return code == CONGEE_PRESENT || code == unlent; }
+
+    /* The loan of a search of the header, from `key` if it takes one. */
+    template <class F, class... K> loan found(F search, K... key) {
+        std::uint64_t at = 0, ticket = 0;
+        void *owner = nullptr;
+        if (search(handle_->map, key..., &at, &owner, &ticket) != CONGEE_PRESENT)
+            return loan();
+        return loan(handle_.get(), at, ticket, owner);
+    }
+    /* Ends the loan of a visit whose function throws. (The loan has no object itself.) */
+    loan of_visits() { return loan(handle_.get(), 0, 0, nullptr); }
+    template <class F> static int visit(std::uint64_t key, void *owner, void *f) {
+        (*static_cast<F *>(f))(key, *P::object_of(owner));
+        return 0;
+    }
+    /* The loan of a call that returned this code. */
+    loan lent(std::uint64_t key, int code, const congee_lent &found) {
+        if (code != CONGEE_PRESENT)
+            return loan();
+        return loan(handle_.get(), key, found.ticket, reinterpret_cast<void *>(static_cast<std::uintptr_t>(found.owner)));
+    }
+    /* Hands an owner to a call of the library, and again while the call is busy. `stores` decides by the code whether the owner
+     * is stored. Returns the code. */
+    template <class S, class F> int offer(pointer &owner, S stores, F call) noexcept {
+        congee_live_owners *map = handle_->map;
+        congee_owners_tidy(map);
+        void *offered = P::offered(owner);
+        while (offered) {
+            const int code = call(&map->handle, static_cast<std::uint64_t>(reinterpret_cast<std::uintptr_t>(offered)));
+            if (stores(code)) {
+                P::stored(owner);
+                return code;
+            }
+            if (code != CONGEE_BUSY) {
+                code == oom_kept || code == busy_kept || code == other_kept ? P::kept(owner) : P::refused(offered);
+                if (code != busy_kept)
+                    return code == oom_kept ? CONGEE_OOM : code;
+                offered = P::offered(owner);
+            }
+            CONGEE_YIELD();
+        }
+        return CONGEE_OOM;
+    }
+
+    std::unique_ptr<lending_handle> handle_;
+};
+
+} // namespace inner
+
+/* A map from keys to objects that threads share. Look-ups take no lock (congee_owners.h). The map has a std::shared_ptr of its
+ * own to each object, and each takes a block of memory. */
+template <class T> class live_owners : public inner::owner_handle<inner::by_shared_ptr<T>> {
+    using base = inner::owner_handle<inner::by_shared_ptr<T>>;
+
+public:
+    using base::base;
+    using base::compare_exchange, base::get_or_insert, base::insert_or_assign, base::try_insert_or_assign;
+
+    /* Returns a further owner of the key's object, or null if the key is absent. Takes no lock and no memory. */
+    std::shared_ptr<T> get(std::uint64_t key) { return this->borrow(key).shared(); }
+    /* These calls store a copy of the owner. */
+    bool insert_or_assign(std::uint64_t key, const std::shared_ptr<T> &owner) {
+        return insert_or_assign(key, std::shared_ptr<T>(owner));
+    }
+    int try_insert_or_assign(std::uint64_t key, const std::shared_ptr<T> &owner) noexcept {
+        return try_insert_or_assign(key, std::shared_ptr<T>(owner));
+    }
+    typename base::loan get_or_insert(std::uint64_t key, const std::shared_ptr<T> &owner) {
+        return get_or_insert(key, std::shared_ptr<T>(owner));
+    }
+    bool compare_exchange(std::uint64_t key, std::uint64_t ticket, const std::shared_ptr<T> &owner) {
+        return compare_exchange(key, ticket, std::shared_ptr<T>(owner));
+    }
+};
+
+/* A map from keys to objects that threads share. Look-ups take no lock (congee_owners.h). The map alone owns an object, which
+ * is reached by loans. */
+template <class T> class live_boxes : public inner::owner_handle<inner::by_unique_ptr<T>> {
+    using base = inner::owner_handle<inner::by_unique_ptr<T>>;
+
+public:
+    using base::base;
 };
 
 } // namespace congee_cpp

@@ -2,7 +2,7 @@
 use congee::{epoch, Congee, CongeeArc, DefaultAllocator, Limit, U64Congee};
 use std::cell::RefCell;
 use std::sync::atomic::{AtomicIsize, AtomicUsize, Ordering::SeqCst};
-use std::sync::{Arc, Barrier};
+use std::sync::{Arc, Barrier, Weak};
 use std::thread;
 
 fn shared<T: Send + Sync>() {}
@@ -156,6 +156,119 @@ fn owners_live_by_guards_that_protect_nothing() {
                         // (the place of one that was dropped early may be another's)
                         assert_eq!((it.key, it.alive.load(SeqCst)), (key, 0xA11CE));
                     }
+                }
+            });
+        }
+    });
+    drop(map);
+    all_are_dropped(&all);
+}
+
+/// Waits until no guard of another test is older than what was taken out.
+fn until_counted(owner: &Arc<usize>, count: usize) {
+    let start = std::time::Instant::now();
+    while Arc::strong_count(owner) != count {
+        assert!(start.elapsed().as_secs() < 30, "counts are left");
+        epoch::pin().flush();
+        thread::yield_now();
+    }
+}
+
+/// The map has one count, and while a guard is pinned, one more of what was taken out.
+#[test]
+fn counts_of_owners() {
+    let map = CongeeArc::<usize, usize>::new();
+    let (first, second) = (Arc::new(1), Arc::new(2));
+    let counts = || (Arc::strong_count(&first), Arc::strong_count(&second));
+    let guard = map.pin();
+    assert!(map.insert(7, first.clone(), &guard).unwrap().is_none());
+    assert_eq!(counts(), (2, 1));
+    let found = map.get(7, &guard).unwrap();
+    assert!(Arc::ptr_eq(&found, &first) && counts() == (3, 1));
+    drop(found);
+    let before = map.insert(7, second.clone(), &guard).unwrap().unwrap();
+    assert!(Arc::ptr_eq(&before, &first) && counts() == (3, 2));
+    drop(before);
+    assert_eq!(counts(), (2, 2));
+    let change = |it: Arc<usize>| {
+        assert!(Arc::ptr_eq(&it, &second) && counts() == (2, 3));
+        Some(first.clone())
+    };
+    let before = map.compute_if_present(7, change, &guard).unwrap();
+    assert!(Arc::ptr_eq(&before, &second) && counts() == (3, 3));
+    drop(before);
+    let removed = map.compute_if_present(7, |_| None, &guard).unwrap();
+    assert!(Arc::ptr_eq(&removed, &first) && counts() == (4, 2));
+    drop(removed);
+    assert!(map.insert(7, first.clone(), &guard).unwrap().is_none());
+    let removed = map.remove(7, &guard).unwrap();
+    assert!(Arc::ptr_eq(&removed, &first) && counts() == (5, 2));
+    drop((removed, guard));
+    until_counted(&first, 1);
+    until_counted(&second, 1);
+    // (what is left goes with the map)
+    map.insert(7, first.clone(), &map.pin()).unwrap();
+    drop(map);
+    until_counted(&first, 1);
+}
+
+#[test]
+fn owners_by_a_hundred_threads() {
+    let all = Arc::new(AtomicIsize::new(0));
+    let map = CongeeArc::<usize, Owner>::new();
+    let called = Barrier::new(100);
+    thread::scope(|scope| {
+        for key in 0..100 {
+            let (map, all, called) = (&map, &all, &called);
+            scope.spawn(move || {
+                let guard = map.pin();
+                map.insert(key, Owner::at(key, all), &guard).unwrap();
+                called.wait();
+                for other in 0..100 {
+                    assert_eq!(map.get(other, &guard).unwrap().key, other);
+                }
+                called.wait();
+                assert_eq!(map.remove(key, &guard).unwrap().key, key);
+            });
+        }
+    });
+    assert!(map.is_empty(&map.pin()));
+    drop(map);
+    all_are_dropped(&all);
+}
+
+/// An owner whose drop calls its map.
+struct Calls {
+    map: Weak<CongeeArc<usize, Calls>>,
+    also: usize,
+    _counted: Arc<Owner>,
+}
+
+impl Drop for Calls {
+    fn drop(&mut self) {
+        if let Some(map) = self.map.upgrade() {
+            drop(map.remove(self.also, &map.pin()));
+        }
+    }
+}
+
+#[test]
+fn drops_that_call_the_map() {
+    let all = Arc::new(AtomicIsize::new(0));
+    let map = Arc::new(CongeeArc::<usize, Calls>::new());
+    thread::scope(|scope| {
+        for t in 0..4 {
+            let (map, all) = (&map, &all);
+            scope.spawn(move || {
+                for i in 0..5_000 {
+                    let (key, guard) = ((i * 7 + t) % 32, map.pin());
+                    let new = Calls {
+                        map: Arc::downgrade(map),
+                        also: key ^ 1,
+                        _counted: Owner::at(key, all),
+                    };
+                    drop(map.insert(key, Arc::new(new), &guard));
+                    drop(map.get((key + 5) % 32, &guard));
                 }
             });
         }

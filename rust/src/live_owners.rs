@@ -23,19 +23,20 @@ mod sealed {
 
 /// What a map of objects stores: an `Arc<T>` or a `Box<T>`. Other types can't implement the trait.
 ///
-/// An object may be read and dropped by any thread at any time, so it is `Send`, `Sync` and `'static`.
+/// An object may be read and dropped by any thread that has a guard. So a map and its guards are `Send` if their objects are `Send`
+/// and `Sync`. An object may have a map of its own kind.
 ///
 /// ```
 /// fn is_stored<P: proved_congee::Pointer>() {}
 /// is_stored::<std::sync::Arc<String>>();
 /// is_stored::<Box<u64>>();
 /// ```
-pub trait Pointer: sealed::Sealed + Sized + Send + 'static {
+pub trait Pointer: sealed::Sealed + Sized + 'static {
     /// The object.
-    type Target: Send + Sync + 'static;
+    type Target: 'static;
 
     /// What a refused insertion returns: the `Arc` itself, or an `Option` of the `Box` ([`LiveBoxMap`]).
-    type Back: Send;
+    type Back;
 
     #[doc(hidden)]
     type Spare;
@@ -60,7 +61,7 @@ pub trait Pointer: sealed::Sealed + Sized + Send + 'static {
     unsafe fn from_pointer(pointer: *const Self::Target) -> Self;
 }
 
-impl<T: Send + Sync + 'static> Pointer for Arc<T> {
+impl<T: 'static> Pointer for Arc<T> {
     type Target = T;
     type Back = Arc<T>;
     type Spare = Arc<T>;
@@ -87,7 +88,7 @@ impl<T: Send + Sync + 'static> Pointer for Arc<T> {
     }
 }
 
-impl<T: Send + Sync + 'static> Pointer for Box<T> {
+impl<T: 'static> Pointer for Box<T> {
     type Target = T;
     type Back = Option<Box<T>>;
     type Spare = ();
@@ -502,7 +503,7 @@ impl<P: Pointer> Loan<'_, P> {
     }
 }
 
-impl<T: Send + Sync + 'static> Loan<'_, Arc<T>> {
+impl<T: 'static> Loan<'_, Arc<T>> {
     /// Returns a further `Arc` of the object, which outlives the loan.
     ///
     /// ```
@@ -578,8 +579,9 @@ pub struct LiveOwnerGuard<P: Pointer> {
     of: PhantomData<P>,
 }
 
-// SAFETY: the library proves that a handle may go to another thread. Objects are `Send` and `Sync`.
-unsafe impl<P: Pointer> Send for LiveOwnerGuard<P> {}
+// SAFETY: the library proves that a handle may go to another thread. There objects are read and dropped, which are `Send` and `Sync`.
+// (`Pointer` asks for neither, so that the compiler finds this of an object that has such a map itself.)
+unsafe impl<P: Pointer + Send> Send for LiveOwnerGuard<P> where P::Target: Send + Sync {}
 
 // What an exchange returns where the key has another ticket, and the library keeps the owner that was handed in.
 const OTHER_KEPT: i32 = 3;
@@ -1131,7 +1133,7 @@ impl<P: Pointer> LiveOwnerGuard<P> {
     }
 }
 
-impl<T: Send + Sync + 'static> LiveOwnerGuard<Arc<T>> {
+impl<T: 'static> LiveOwnerGuard<Arc<T>> {
     /// Returns a further `Arc` of the object at the key, or `None` if the key is absent. Takes no lock and no memory. While
     /// other threads are in the way, the call yields and tries again.
     ///

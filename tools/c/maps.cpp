@@ -28,6 +28,7 @@ using congee_cpp::shared_map;
 
 static_assert(std::is_nothrow_move_constructible_v<map> && !std::is_copy_constructible_v<map>);
 static_assert(std::is_nothrow_move_constructible_v<live_map> && std::is_copy_constructible_v<live_map>);
+static_assert(std::is_nothrow_move_assignable_v<live_map> && !std::is_nothrow_copy_assignable_v<live_map>);
 #if __cplusplus >= 202002L
 static_assert(std::bidirectional_iterator<map::const_iterator> && std::ranges::bidirectional_range<map>);
 #endif

@@ -27,7 +27,7 @@ def of_header(name, prefix):
 def of_class(name):
     """The public functions of a class of congee.hpp, with `constructor` for those that make a map, and `copy constructor`."""
     text = text_of("include/congee.hpp")
-    body = re.search(rf"(?ms)^(?:template <class C> )?class {name}(?: : public [^{{]*)? \{{$(.*?)^\}};$", text)[1]
+    body = re.search(rf"(?ms)^(?:template <class \w> )?class {name}(?: : public [^{{]*)? \{{$(.*?)^\}};$", text)[1]
     # (what is private, and the classes within)
     body = re.sub(r"(?ms)^    class \w+ \{$.*?^    \};$", "", body)
     public = re.split(r"(?m)^(?:private|protected):$", body)[0].partition("public:\n")[2]

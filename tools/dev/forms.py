@@ -2,6 +2,7 @@
 import collections
 import re
 
+from calls import of_class
 from sources import files, named, text_of
 
 
@@ -146,6 +147,12 @@ def owner_calls(page, head):
             yield from [name, f"try_{name}"] if row[1] == "try" else [name]
 
 
+def owner_functions():
+    """The public functions of the classes of maps of objects in C++."""
+    made = {"constructor", "copy constructor"}
+    return (of_class("owner_handle") | of_class("live_owners") | of_class("live_boxes")) - made
+
+
 def owner_methods():
     """The public functions of a guard of objects."""
     blocks = re.findall(r"(?ms)^impl<[^\n]*> LiveOwnerGuard<[^\n]*\{$(.*?)^\}$", text_of("rust/src/live_owners.rs") + text_of("rust/src/live_owners/in_order.rs"))
@@ -169,6 +176,8 @@ def faults(defined):
     yield "docs/LIVE.md, calls of congee_live.h", differences("docs/LIVE.md", live_calls(), calls_of_header("congee_live", "congee_live_"))
     here = {*owner_calls("docs/C.md", "| Call of a map of objects |")}
     yield "docs/C.md, maps of objects", differences("docs/C.md", here, calls_of_header("congee_owners", "congee_live_owners_"))
+    here = {it for row in cells_of("docs/CPP.md", "| Call of a map of objects in C++ |")[1:] for it in called(row[0])}
+    yield "docs/CPP.md, maps of objects", differences("docs/CPP.md", here, owner_functions())
     here = {*owner_calls("docs/RUST.md", "| Call of a guard of objects |")}
     yield "docs/RUST.md, maps of objects", differences("docs/RUST.md", here, owner_methods())
     yield "docs/C.md, arguments", [f"{it} is {there} in the header" for it, there in arguments() if it != there]

@@ -7,12 +7,16 @@ THREADS = (1, 2, 4)
 # The loads and the maps of tools/dev/compare-crates, and what its tables call them.
 LOADS = {
     "new": "new key", "get": "look-up", "overwrite": "overwrite", "tenth": "a tenth writes", "half": "half writes",
-    "range": "range of 100", "remove": "remove",
+    "range": "range of 100", "remove": "remove", "hot": "look-up of one key",
 }
 BESIDE = {
     "live": "this map (`LiveMap`)", "shards": "`SharedMap`, in 64 shards", "lock": "`SharedMap`, under one lock",
     "congee": "the crate `congee`", "skiplist": "`crossbeam-skiplist`", "dashmap": "`dashmap`, which has no order",
     "btree": "`Mutex<BTreeMap>`",
+}
+OWNERS = {
+    "lent": "`LiveArcMap`, by loans", "counted": "`LiveArcMap`, by a further `Arc`", "congee-arc": "`CongeeArc` of the crate `congee`",
+    "btree-arc": "`Mutex<BTreeMap<u64, Arc<u64>>>`",
 }
 SECTION = "## Threads, beside other maps"
 # The forms of the plots, by their names in the tables.
@@ -73,15 +77,16 @@ def with_bench(data, bench):
     return data
 
 
-def beside_table(rows, keys, threads=THREADS):
+def beside_table(rows, keys, threads=THREADS, forms=None):
     """The table of what tools/dev/compare-crates measured over such keys: a line for each map."""
     by_form = {row["form"]: row for row in rows if row["keys"] == keys}
     loads = [load for load in LOADS if any(f"{load} {threads[0]}" in row for row in by_form.values())]
     lines = [f"| {keys} keys | " + " | ".join(LOADS[load] for load in loads) + " |", "|---" * (len(loads) + 1) + "|"]
-    for form in (it for it in BESIDE if it in by_form):
+    forms = forms or BESIDE
+    for form in (it for it in forms if it in by_form):
         times = [[by_form[form].get(f"{load} {count}") for count in threads] for load in loads]
         cells = [" / ".join(f"{time:.0f}" for time in it if time is not None) for it in times]
-        lines.append(f"| {BESIDE[form]} | " + " | ".join(cells) + " |")
+        lines.append(f"| {forms[form]} | " + " | ".join(cells) + " |")
     return "\n".join(lines) + "\n"
 
 

@@ -73,8 +73,8 @@ fn all_are_dropped() {
 }
 
 /// A pointer that is made of an object.
-trait Made: Pointer<Target = Counted> + From<Counted> {}
-impl<P: Pointer<Target = Counted> + From<Counted>> Made for P {}
+trait Made: Pointer<Target = Counted> + From<Counted> + Send {}
+impl<P: Pointer<Target = Counted> + From<Counted> + Send> Made for P {}
 
 /// One call of a guard.
 fn call<P: Made>(guard: &mut LiveOwnerGuard<P>, key: u64, kind: u64, number: u64) {
@@ -503,6 +503,36 @@ fn drops_that_call() -> Result<(), Box<dyn Error>> {
     Ok(())
 }
 
+/// An object that has a map of its own kind.
+struct Node {
+    below: LiveArcMap<Node>,
+    _counted: Counted,
+}
+
+fn nodes() -> Result<(), Box<dyn Error>> {
+    let new = |number| -> Result<Arc<Node>, Box<dyn Error>> {
+        Ok(Arc::new(Node {
+            below: LiveArcMap::new()?,
+            _counted: Counted::new(0, number),
+        }))
+    };
+    let root = new(0)?;
+    let inner = new(1)?;
+    until_made(|| root.below.pin().unwrap().insert(7, inner.clone()).map(drop));
+    let leaf = new(2)?;
+    until_made(|| inner.below.pin().unwrap().insert(8, leaf.clone()).map(drop));
+    drop((inner, leaf));
+    // (by another thread, so the type is `Send` and `Sync`)
+    let found = thread::spawn(move || {
+        let inner = root.below.pin().unwrap().get_arc(7).unwrap();
+        let leaf = inner.below.pin().unwrap().get_arc(8);
+        leaf.is_some_and(|leaf| leaf.below.pin().unwrap().is_empty())
+    });
+    assert!(found.join().expect("no panic"));
+    all_are_dropped();
+    Ok(())
+}
+
 /// Removed objects wait, and not for ever.
 fn waits_for_few() -> Result<(), Box<dyn Error>> {
     let mut guard = LiveBoxMap::<Counted>::new()?.pin()?;
@@ -593,6 +623,7 @@ fn main() -> Result<(), Box<dyn Error>> {
         one_by_one()?;
         in_order()?;
         drops_that_call()?;
+        nodes()?;
         waits_for_few()?;
     }
     refusals()?;

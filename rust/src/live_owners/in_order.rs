@@ -467,7 +467,7 @@ impl<P: Pointer> LiveOwnerGuard<P> {
     }
 }
 
-impl<T: Send + Sync + 'static> LiveOwnerGuard<Arc<T>> {
+impl<T: 'static> LiveOwnerGuard<Arc<T>> {
     /// Returns an iterator over the keys within the bounds and a further `Arc` of each object, keys ascending, from either
     /// end. Each key is read at a moment of its own, and each key that is present throughout the iteration is returned.
     /// The keys are read in pages of 4, then 16, and then 64. While other threads are in the way, the iterator yields and
@@ -510,12 +510,12 @@ impl<T: Send + Sync + 'static> LiveOwnerGuard<Arc<T>> {
 /// # Ok(())
 /// # }
 /// ```
-pub struct Arcs<'a, T: Send + Sync + 'static> {
+pub struct Arcs<'a, T: 'static> {
     guard: &'a mut LiveOwnerGuard<Arc<T>>,
     cursor: Cursor,
 }
 
-impl<T: Send + Sync + 'static> Iterator for Arcs<'_, T> {
+impl<T: 'static> Iterator for Arcs<'_, T> {
     type Item = (u64, Arc<T>);
 
     fn next(&mut self) -> Option<(u64, Arc<T>)> {
@@ -528,7 +528,7 @@ impl<T: Send + Sync + 'static> Iterator for Arcs<'_, T> {
     }
 }
 
-impl<T: Send + Sync + 'static> DoubleEndedIterator for Arcs<'_, T> {
+impl<T: 'static> DoubleEndedIterator for Arcs<'_, T> {
     fn next_back(&mut self) -> Option<(u64, Arc<T>)> {
         loop {
             let at = self.cursor.next_back(Source::Tickets(self.guard))?;
@@ -539,9 +539,9 @@ impl<T: Send + Sync + 'static> DoubleEndedIterator for Arcs<'_, T> {
     }
 }
 
-impl<T: Send + Sync + 'static> FusedIterator for Arcs<'_, T> {}
+impl<T: 'static> FusedIterator for Arcs<'_, T> {}
 
-impl<T: Send + Sync + 'static> fmt::Debug for Arcs<'_, T> {
+impl<T: 'static> fmt::Debug for Arcs<'_, T> {
     fn fmt(&self, f: &mut fmt::Formatter<'_>) -> fmt::Result {
         f.debug_struct("Arcs").finish_non_exhaustive()
     }

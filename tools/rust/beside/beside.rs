@@ -1,16 +1,17 @@
 //! Times maps that threads share by the same loads, all maps in one process and in turns.
 //!
-//!     beside [--keys N] [--takes N] [--threads N]..
+//!     beside [--keys N] [--takes N] [--threads N].. [--owners]
 //!
 //! A line for each load: the kind of the keys, the map, the threads, the load, and for each call of all threads together nanoseconds
 //! of wall time, and of the processors. What the calls return is summed up, and the sums of all maps have to agree. A map that a
-//! feature names is there where that is set (`tools/dev/compare-crates`).
+//! feature names is there where that is set (`tools/dev/compare-crates`). With `--owners` the maps of objects are timed alone.
 
 // (without cargo nobody lists the features)
 #![allow(unexpected_cfgs)]
 
 mod loads;
 mod maps;
+mod owners;
 
 use loads::{take, Plan, Timed};
 use std::env;
@@ -32,25 +33,40 @@ const MAPS: &[(&str, Take)] = &[
     ("btree", take::<maps::InMutex>),
 ];
 
+/// The maps of objects.
+const OWNERS: &[(&str, Take)] = &[
+    ("lent", take::<owners::Lent>),
+    ("counted", take::<owners::Counted>),
+    #[cfg(feature = "congee")]
+    ("congee-arc", take::<owners::Crate>),
+    ("btree-arc", take::<owners::InMutex>),
+];
+
 struct Asked {
+    maps: &'static [(&'static str, Take)],
     keys: usize,
     takes: usize,
     threads: Vec<usize>,
 }
 
 fn usage() -> ! {
-    eprintln!("usage: beside [--keys N] [--takes N] [--threads N]..");
+    eprintln!("usage: beside [--keys N] [--takes N] [--threads N].. [--owners]");
     exit(2)
 }
 
 fn asked() -> Asked {
     let mut asked = Asked {
+        maps: MAPS,
         keys: 1_000_000,
         takes: 5,
         threads: vec![],
     };
     let mut words = env::args().skip(1);
     while let Some(word) = words.next() {
+        if word == "--owners" {
+            asked.maps = OWNERS;
+            continue;
+        }
         let number: Option<usize> = words.next().and_then(|it| it.parse().ok());
         match (word.as_str(), number) {
             ("--keys", Some(keys)) if keys >= 1000 => asked.keys = keys,
@@ -82,9 +98,9 @@ fn main() {
         for &threads in &asked.threads {
             let mut first: Option<Vec<Timed>> = None;
             for turn in 0..asked.takes {
-                for place in 0..MAPS.len() {
+                for place in 0..asked.maps.len() {
                     // (each take begins with another map)
-                    let (name, take) = MAPS[(place + turn) % MAPS.len()];
+                    let (name, take) = asked.maps[(place + turn) % asked.maps.len()];
                     let timed = take(&plan, threads);
                     for it in timed.iter().filter(|it| it.calls > 0) {
                         let times = format!("{:.2} {:.2}", it.wall, it.processor);

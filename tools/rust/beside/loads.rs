@@ -31,6 +31,8 @@ pub trait Shared: Sync {
     const TAKES_CLOSURES: bool = false;
     /// Whether an insertion returns the value before.
     const RETURNS_BEFORE: bool = true;
+    /// Whether look-ups of one key by all threads are timed.
+    const HAS_HOT_KEY: bool = false;
     type Caller<'a>: Calls
     where
         Self: 'a;
@@ -235,6 +237,7 @@ pub fn take<M: Shared>(plan: &Plan, threads: usize) -> Vec<Timed> {
     let half = &plan.shuffled[..count / 2];
     let few = &half[..if M::HAS_RANGES { count / 200 } else { 0 }];
     let changed = &half[..if M::TAKES_CLOSURES { count / 2 } else { 0 }];
+    let hot = vec![plan.shuffled[0]; if M::HAS_HOT_KEY { count / 2 } else { 0 }];
     let gone = &plan.shuffled[count * 7 / 10..];
     let before = M::RETURNS_BEFORE;
     vec![
@@ -249,6 +252,7 @@ pub fn take<M: Shared>(plan: &Plan, threads: usize) -> Vec<Timed> {
         run.mixed("tenth", half, 10, 2),
         run.mixed("half", half, 2, 3),
         run.timed("range", (few, true), |it, _, key| it.range(key)),
+        run.timed("hot", (&hot, true), |it, _, key| it.get(key)),
         run.timed("remove", (gone, true), |it, _, key| it.remove(key)),
     ]
 }
