@@ -199,6 +199,8 @@ int32_t congee_c_live_owners_insert(struct congee_live_owners_handle *handle, ui
 int32_t congee_c_live_owners_remove(struct congee_live_owners_handle *handle, uint64_t key, struct congee_lent *before);
 int32_t congee_c_live_owners_compare_exchange(struct congee_live_owners_handle *handle, uint64_t key, uint64_t ticket,
                                               uint64_t owner, struct congee_lent *before);
+int32_t congee_c_live_owners_compare_remove(struct congee_live_owners_handle *handle, uint64_t key, uint64_t ticket,
+                                            struct congee_lent *before);
 int32_t congee_c_live_owners_get_or_insert(struct congee_live_owners_handle *handle, uint64_t key, uint64_t owner,
                                            struct congee_lent *found);
 int32_t congee_c_live_owners_reclaim(struct congee_live_owners_handle *handle, struct congee_lent *back);

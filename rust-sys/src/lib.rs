@@ -489,6 +489,12 @@ extern "C" {
         owner: u64,
         before: *mut Lent,
     ) -> i32;
+    pub fn congee_c_live_owners_compare_remove(
+        handle: *mut LiveOwnersHandle,
+        key: u64,
+        ticket: u64,
+        before: *mut Lent,
+    ) -> i32;
     pub fn congee_c_live_owners_get_or_insert(
         handle: *mut LiveOwnersHandle,
         key: u64,

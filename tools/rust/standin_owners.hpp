@@ -134,6 +134,17 @@ int exchange_owner(congee_owners_guard &guard, uint64_t key, uint64_t ticket, ui
     return retire(guard, entry, out);
 }
 
+int remove_ticket(congee_owners_guard &guard, uint64_t key, uint64_t ticket, congee_lent *out) {
+    auto at = guard.table().entries.find(key);
+    if (is_busy())
+        return CONGEE_BUSY;
+    if (at == guard.table().entries.end() || at->second.ticket != ticket)
+        return 0;
+    auto entry = at->second;
+    guard.table().entries.erase(at);
+    return retire(guard, entry, out);
+}
+
 int get_owner(congee_owners_guard &guard, uint64_t key, congee_lent *out) {
     auto at = guard.table().entries.find(key);
     if (is_busy())
@@ -278,6 +289,9 @@ int32_t congee_c_live_owners_insert(congee_live_owners_handle *h, KEY, uint64_t 
 int32_t congee_c_live_owners_remove(congee_live_owners_handle *h, KEY, LENT) { OWNERS(remove_owner(guard, key, out)) }
 int32_t congee_c_live_owners_compare_exchange(congee_live_owners_handle *h, KEY, uint64_t ticket, uint64_t owner, LENT) {
     OWNERS(exchange_owner(guard, key, ticket, owner, out))
+}
+int32_t congee_c_live_owners_compare_remove(congee_live_owners_handle *h, KEY, uint64_t ticket, LENT) {
+    OWNERS(remove_ticket(guard, key, ticket, out))
 }
 int32_t congee_c_live_owners_get_or_insert(congee_live_owners_handle *h, KEY, uint64_t owner, LENT) {
     OWNERS(get_or_insert_owner(guard, key, owner, out))
