@@ -2,16 +2,17 @@
 
 use crate::handles::Tree;
 use crate::{epoch, word, OOMError};
+use proved_congee::{ExchangeError, LiveOwnerMap, OutOfMemory, Refused, Ticket};
 use std::fmt;
 use std::marker::PhantomData;
 use std::sync::Arc;
 
-/// A map from keys that are each a `usize` to owners, over a [`LiveMap`](proved_congee::LiveMap). Threads share the map by
-/// `&`. Proved is the live map beneath, from keys to addresses. The counts of owners are this layer's, and tested.
+/// A map from keys that are each a `usize` to owners, over a [`LiveArcMap`](proved_congee::LiveArcMap). Threads share the
+/// map by `&`. Proved of the map beneath is that no owner comes back while a handle has the owner lent. The counts of owners
+/// are this layer's, and tested.
 ///
-/// The map has one count of each owner, whose address is the key's value in the tree. A reader that finds the address takes
-/// one more count while the reader has pinned the epoch. An owner that a call has removed keeps a count until all threads
-/// that were pinned then have unpinned, whether by this map or by a guard of the caller's.
+/// The map has one count of each owner. A call that finds an owner has the owner lent while the call takes one more count. An
+/// owner that a call has removed keeps a count until the caller's guard is dropped, and each other guard of the moment.
 ///
 /// ```
 /// use congee::CongeeArc;
@@ -26,7 +27,7 @@ pub struct CongeeArc<K: From<usize> + Copy, V: Sync + Send + 'static>
 where
     usize: From<K>,
 {
-    tree: Tree,
+    tree: Tree<LiveOwnerMap<Arc<V>>>,
     _types: PhantomData<(K, Arc<V>)>,
 }
 
@@ -59,9 +60,22 @@ where
     /// ```
     pub fn new() -> Self {
         CongeeArc {
-            tree: Tree::with_limit(u64::MAX).expect("there is no memory for a map"),
+            tree: LiveOwnerMap::new()
+                .and_then(Tree::of)
+                .expect("there is no memory for a map"),
             _types: PhantomData,
         }
+    }
+
+    /// The owner that a call took out, for its caller. One count lasts until no guard of the moment is left.
+    fn taken_out(&self, owner: Arc<V>, guard: &epoch::Guard) -> Arc<V> {
+        let kept = owner.clone();
+        guard.defer(move || drop(kept));
+        // (dropped while no handle is in a call, since what is dropped may call this map)
+        while let Some(back) = self.tree.with(|handle| handle.borrow_mut().take_back()) {
+            drop(back);
+        }
+        owner
     }
 
     /// Returns a guard of the epoch. While the guard lives, the map keeps a count of each removed owner.
@@ -91,7 +105,7 @@ where
     /// assert!(!map.is_empty(&guard));
     /// ```
     pub fn is_empty(&self, _guard: &epoch::Guard) -> bool {
-        self.tree.with(|handle| handle.is_empty())
+        self.tree.with(|handle| handle.borrow().is_empty())
     }
 
     /// Returns one more owner of the key's value, or `None` if the key is absent.
@@ -108,11 +122,8 @@ where
     #[doc(alias("find", "index"))]
     #[inline]
     pub fn get(&self, key: K, _guard: &epoch::Guard) -> Option<Arc<V>> {
-        // (the caller's guard may be of another collector, or protect nothing)
-        let _pinned = epoch::pin();
-        let address = self.tree.get(word(key))?;
-        // SAFETY: it was in the map while this thread was pinned.
-        Some(unsafe { one_more(address) })
+        self.tree
+            .with(|handle| handle.borrow_mut().get_arc(word(key)))
     }
 
     /// Sets the key's value, and returns the previous owner, or `None` for a new key. Returns [`OOMError`], with the new
@@ -133,19 +144,16 @@ where
         &self,
         key: K,
         val: Arc<V>,
-        _guard: &epoch::Guard,
+        guard: &epoch::Guard,
     ) -> Result<Option<Arc<V>>, OOMError> {
-        let pinned = epoch::pin();
-        let address = address_of(val);
-        match self.tree.with(|handle| handle.insert(word(key), address)) {
-            // SAFETY: the map had its count, and has it no more.
-            Ok(before) => Ok(before.map(|it| unsafe { taken_out(it, &pinned) })),
-            Err(_) => {
-                // SAFETY: it is as this call was handed it.
-                drop(unsafe { owner::<V>(address) });
-                Err(OOMError::new())
-            }
-        }
+        let made = self.tree.with(|handle| {
+            let mut handle = handle.borrow_mut();
+            let before = handle.insert(word(key), val)?;
+            Ok(before.map(|it| it.to_arc()))
+        });
+        // (the error has the owner, which is dropped here)
+        let before = made.map_err(|_: Refused<Arc<V>, OutOfMemory>| OOMError::new())?;
+        Ok(before.map(|it| self.taken_out(it, guard)))
     }
 
     /// Removes the key, and returns its owner, or `None` if the key was absent.
@@ -161,16 +169,22 @@ where
     /// assert!(map.get(7, &guard).is_none());
     /// ```
     #[doc(alias = "delete")]
-    pub fn remove(&self, key: K, _guard: &epoch::Guard) -> Option<Arc<V>> {
-        let pinned = epoch::pin();
-        let address = self.tree.with(|handle| handle.remove(word(key)))?;
-        // SAFETY: the map had its count, and has it no more.
-        Some(unsafe { taken_out(address, &pinned) })
+    pub fn remove(&self, key: K, guard: &epoch::Guard) -> Option<Arc<V>> {
+        let removed = self.tree.with(|handle| {
+            let mut handle = handle.borrow_mut();
+            let before = handle.remove(word(key));
+            before.map(|it| it.to_arc())
+        })?;
+        Some(self.taken_out(removed, guard))
     }
 
     /// Calls the closure with an owner of a present key's value. Stores the owner that the closure returns, or removes the
     /// key for `None`. Returns the owner before, or `None` if the key is absent. The closure is called while nothing is
     /// locked. If another thread changes the key meanwhile, the closure is called again with the new value.
+    ///
+    /// # Panics
+    ///
+    /// If there is no memory for the place of a new owner.
     ///
     /// ```
     /// use congee::CongeeArc;
@@ -183,26 +197,44 @@ where
     /// assert_eq!(*map.get(7, &guard).unwrap(), "B");
     /// ```
     #[doc(alias("alter", "and_modify", "compute", "get_mut", "update"))]
-    pub fn compute_if_present<F>(&self, key: K, mut f: F, _guard: &epoch::Guard) -> Option<Arc<V>>
+    pub fn compute_if_present<F>(&self, key: K, mut f: F, guard: &epoch::Guard) -> Option<Arc<V>>
     where
         F: FnMut(Arc<V>) -> Option<Arc<V>>,
     {
-        let pinned = epoch::pin();
         let key = word(key);
-        let mut current = self.tree.get(key)?;
         loop {
-            // SAFETY: it was in the map while this thread was pinned. So its address isn't another owner's either.
-            let new = f(unsafe { one_more(current) }).map(address_of);
-            match self.tree.compare_exchange(key, current, new) {
-                // SAFETY: the map had its count, and has it no more.
-                Ok(()) => return Some(unsafe { taken_out(current, &pinned) }),
-                Err(found) => {
-                    // SAFETY: it is as the closure returned it.
-                    drop(new.map(|it| unsafe { owner::<V>(it) }));
-                    current = found?;
-                }
+            let (current, ticket) = self.tree.with(|handle| {
+                let mut handle = handle.borrow_mut();
+                let found = handle.get(key)?;
+                Some((found.to_arc(), found.ticket()))
+            })?;
+            let before = match f(current) {
+                Some(new) => self.replace(key, ticket, new),
+                None => self.tree.with(|handle| {
+                    let mut handle = handle.borrow_mut();
+                    let removed = handle.compare_remove(key, ticket);
+                    removed.map(|it| it.to_arc())
+                }),
+            };
+            if let Some(before) = before {
+                return Some(self.taken_out(before, guard));
             }
         }
+    }
+
+    /// Replaces the owner that has this ticket, and returns it. None if the key has that ticket no more.
+    fn replace(&self, key: u64, ticket: Ticket, new: Arc<V>) -> Option<Arc<V>> {
+        let made = self.tree.with(|handle| {
+            let mut handle = handle.borrow_mut();
+            let before = handle.compare_exchange(key, ticket, new)?;
+            Ok(before.map(|it| it.to_arc()))
+        });
+        made.unwrap_or_else(|refused: Refused<Arc<V>, ExchangeError<OutOfMemory>>| {
+            match refused.error() {
+                ExchangeError::Other => None,
+                ExchangeError::Refused(OutOfMemory) => panic!("there is no memory for an owner"),
+            }
+        })
     }
 
     /// Returns all keys, ascending. Each key is read at a moment of the call, and a key that is present throughout the call
@@ -219,7 +251,8 @@ where
     /// ```
     #[doc(alias = "iter")]
     pub fn keys(&self) -> Vec<K> {
-        self.tree.keys(|key| K::from(key as usize))
+        let keys: Vec<u64> = self.tree.with(|handle| handle.borrow().keys().collect());
+        keys.into_iter().map(|it| K::from(it as usize)).collect()
     }
 }
 
@@ -228,9 +261,8 @@ where
     usize: From<K>,
 {
     fn drop(&mut self) {
-        // SAFETY: the map has one count of each, and is used no more.
-        self.tree
-            .each(|pair| drop(unsafe { owner::<V>(pair.value) }));
+        // (what other threads' handles took out goes with them)
+        self.tree.with(|handle| handle.borrow_mut().clear());
     }
 }
 
@@ -241,35 +273,4 @@ where
     fn fmt(&self, f: &mut fmt::Formatter<'_>) -> fmt::Result {
         f.debug_struct("CongeeArc").finish_non_exhaustive()
     }
-}
-
-fn address_of<V>(owner: Arc<V>) -> u64 {
-    Arc::into_raw(owner) as usize as u64
-}
-
-/// # Safety
-///
-/// The address is of `address_of`, and its count is the caller's.
-unsafe fn owner<V>(address: u64) -> Arc<V> {
-    Arc::from_raw(address as usize as *const V)
-}
-
-/// # Safety
-///
-/// The address is of `address_of`, and somebody's count lasts during this call.
-unsafe fn one_more<V>(address: u64) -> Arc<V> {
-    Arc::increment_strong_count(address as usize as *const V);
-    owner(address)
-}
-
-/// An owner for the caller, and one that ends once no reader is left that may just have found it.
-///
-/// # Safety
-///
-/// As [`owner`], and this thread was pinned before the map gave it up.
-unsafe fn taken_out<V: Sync + Send + 'static>(address: u64, pinned: &epoch::Guard) -> Arc<V> {
-    let owner = owner::<V>(address);
-    let kept = owner.clone();
-    pinned.defer(move || drop(kept));
-    owner
 }

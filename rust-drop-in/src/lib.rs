@@ -27,7 +27,8 @@
 //!   returned in vain are dropped.
 //! - A thread takes a handle of a map at its first call. A thread that inserts owns 4 KB of free nodes, and in a large map up
 //!   to 512 KB. Another thread gets the handle once the first thread has ended.
-//! - A [`CongeeArc`] pins the epoch in each call. So the map needs no guard, and takes a guard for the signature alone.
+//! - A [`CongeeArc`] keeps one count of each removed owner until the caller's guard is dropped. Readers need no guard.
+//! - 62 threads have a handle of their own of a [`CongeeArc`]. All further threads use a common handle, under a mutex.
 
 #![warn(missing_docs, missing_debug_implementations)]
 

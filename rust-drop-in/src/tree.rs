@@ -1,12 +1,16 @@
 //! Calls of several steps on a map of numbers.
 
 use crate::handles::Tree;
-use proved_congee::{OutOfMemory, Pair};
+use proved_congee::{LiveMap, OutOfMemory, Pair};
 
 /// How many pairs are read at once.
 const PAGE: usize = 128;
 
 impl Tree {
+    pub(crate) fn with_limit(bytes: u64) -> Result<Tree, OutOfMemory> {
+        Tree::of(LiveMap::with_limit(bytes)?)
+    }
+
     #[inline]
     pub(crate) fn get(&self, key: u64) -> Option<u64> {
         self.with(|handle| handle.get(key))

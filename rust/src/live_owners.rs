@@ -923,9 +923,9 @@ impl<P: Pointer> LiveOwnerGuard<P> {
         Ok(self.loan(removed))
     }
 
-    /// Replaces the object at the key, if the key still has this [`Ticket`]. The ticket decides: after a removal and an
-    /// insertion of one object the key has another ticket. While other threads are in the way, the call yields and tries
-    /// again. Returns [`ExchangeError::Other`] if the key has another ticket or is absent, and [`OutOfMemory`] if there is
+    /// Replaces the object at the key, if the key still has this [`Ticket`], and lends the previous object. The ticket decides:
+    /// after a removal and an insertion of one object the key has another ticket. (`Ok(None)` if the library can't lend the
+    /// previous object, which no test has met.) While other threads are in the way, the call yields and tries again. Returns [`ExchangeError::Other`] if the key has another ticket or is absent, and [`OutOfMemory`] if there is
     /// no memory, each with what was handed in.
     ///
     /// ```
@@ -948,17 +948,17 @@ impl<P: Pointer> LiveOwnerGuard<P> {
         key: u64,
         ticket: Ticket,
         owner: P,
-    ) -> Result<(), Refused<P, ExchangeError<OutOfMemory>>> {
+    ) -> Result<Option<Loan<'_, P>>, Refused<P, ExchangeError<OutOfMemory>>> {
         let once = |guard: &mut Self, owner| guard.exchange_once(key, ticket, owner);
         match self.until_made(owner, once) {
-            Ok(made) => drop(self.loan(made)),
-            Err(why) => return Err(not_exchanged(why.0, out_of_memory(why))),
+            Ok(made) => Ok(self.loan(made)),
+            Err(why) => Err(not_exchanged(why.0, out_of_memory(why))),
         }
-        Ok(())
     }
 
-    /// Replaces the object at the key, if the key still has this [`Ticket`]. The ticket decides: after a removal and an
-    /// insertion of one object the key has another ticket. Doesn't wait: returns [`TryError::Busy`] if other threads were in
+    /// Replaces the object at the key, if the key still has this [`Ticket`], and lends the previous object. The ticket decides:
+    /// after a removal and an insertion of one object the key has another ticket. (`Ok(None)` if the library can't lend the
+    /// previous object, which no test has met.) Doesn't wait: returns [`TryError::Busy`] if other threads were in
     /// the way at each of a bounded number of tries. Returns [`ExchangeError::Other`] if the key has another ticket or is
     /// absent, and [`TryError::OutOfMemory`] if there is no memory, each with what was handed in.
     ///
@@ -977,59 +977,54 @@ impl<P: Pointer> LiveOwnerGuard<P> {
         key: u64,
         ticket: Ticket,
         owner: P,
-    ) -> Result<(), Refused<P, ExchangeError<TryError>>> {
+    ) -> Result<Option<Loan<'_, P>>, Refused<P, ExchangeError<TryError>>> {
         match self.exchange_once(key, ticket, owner) {
-            Ok(made) => drop(self.loan(made)),
-            Err(why) => return Err(not_exchanged(why.0, refused(why))),
+            Ok(made) => Ok(self.loan(made)),
+            Err(why) => Err(not_exchanged(why.0, refused(why))),
         }
-        Ok(())
     }
 
-    /// Removes the key, if the key still has this [`Ticket`], and lends the removed object. The ticket decides: after a
-    /// removal and an insertion of one object the key has another ticket. Returns `None` if the key has another ticket or
-    /// is absent. (`None`, too, if the library can't lend the removed object, which no test has met.) Never out of memory.
-    /// While other threads are in the way, the call yields and tries again.
+    /// Removes the key, if the key still has this [`Ticket`], and lends the removed object, or returns `None` if the key has
+    /// another ticket or is absent. (`None`, too, if the library can't lend the removed object, which no test has met.) Never
+    /// out of memory. While other threads are in the way, the call yields and tries again.
     ///
     /// ```
     /// # fn main() -> Result<(), Box<dyn std::error::Error>> {
     /// let mut guard = proved_congee::LiveBoxMap::new()?.pin()?;
     /// guard.insert(7, Box::new(70)).unwrap();
-    /// let first = guard.get(7).unwrap().ticket();
-    /// guard.insert(7, Box::new(71)).unwrap();
-    /// assert!(guard.compare_remove(7, first).is_none());
-    /// let second = guard.get(7).unwrap().ticket();
-    /// assert_eq!(guard.compare_remove(7, second).as_deref(), Some(&71));
+    /// let ticket = guard.get(7).unwrap().ticket();
+    /// assert_eq!(guard.compare_remove(7, ticket).as_deref(), Some(&70));
+    /// assert!(guard.compare_remove(7, ticket).is_none());
     /// # Ok(())
     /// # }
     /// ```
-    pub fn compare_remove(&mut self, key: u64, ticket: Ticket) -> Option<Loan<'_, P>> {
+    #[doc(alias = "remove_if")]
+    pub fn compare_remove(&mut self, key: impl Borrow<u64>, ticket: Ticket) -> Option<Loan<'_, P>> {
+        let key = *key.borrow();
         let removed = waiting(|| self.take_ticket(key, ticket));
         self.loan(removed)
     }
 
-    /// Removes the key, if the key still has this [`Ticket`], and lends the removed object. The ticket decides: after a
-    /// removal and an insertion of one object the key has another ticket. Returns `None` if the key has another ticket or
-    /// is absent. (`None`, too, if the library can't lend the removed object, which no test has met.) Never out of memory.
-    /// Doesn't wait: returns [`Busy`], with nothing changed, if other threads were in the way at each of a bounded number
-    /// of tries.
+    /// Removes the key, if the key still has this [`Ticket`], and lends the removed object, or returns `None` if the key has
+    /// another ticket or is absent. (`None`, too, if the library can't lend the removed object, which no test has met.) Never
+    /// out of memory. Doesn't wait: returns [`Busy`], with nothing changed, if other threads were in the way at each of a
+    /// bounded number of tries.
     ///
     /// ```
     /// # fn main() -> Result<(), Box<dyn std::error::Error>> {
     /// let mut guard = proved_congee::LiveBoxMap::new()?.pin()?;
     /// guard.insert(7, Box::new(70)).unwrap();
-    /// let first = guard.get(7).unwrap().ticket();
-    /// guard.insert(7, Box::new(71)).unwrap();
-    /// assert!(guard.try_compare_remove(7, first)?.is_none());
-    /// assert!(guard.get(7).is_some());
+    /// let ticket = guard.get(7).unwrap().ticket();
+    /// assert_eq!(guard.try_compare_remove(7, ticket)?.as_deref(), Some(&70));
     /// # Ok(())
     /// # }
     /// ```
     pub fn try_compare_remove(
         &mut self,
-        key: u64,
+        key: impl Borrow<u64>,
         ticket: Ticket,
     ) -> Result<Option<Loan<'_, P>>, Busy> {
-        let removed = self.take_ticket(key, ticket)?;
+        let removed = self.take_ticket(*key.borrow(), ticket)?;
         Ok(self.loan(removed))
     }
 
@@ -1098,12 +1093,32 @@ impl<P: Pointer> LiveOwnerGuard<P> {
     /// # }
     /// ```
     pub fn reclaim(&mut self) -> u64 {
-        let (mut back, mut count) = (Lent::default(), 0);
-        while unsafe { congee_c_live_owners_reclaim(&mut self.handle(), &mut back) } == 1 {
+        let mut count = 0;
+        while let Some(back) = self.take_back() {
             count += 1;
-            self.release(back);
+            drop(back);
         }
         count
+    }
+
+    /// Returns an object that left the map by this guard, or by a guard that was dropped, and that no guard has lent, or
+    /// `None` if there is none. [`reclaim`](LiveOwnerGuard::reclaim) drops what this call returns. The call reads the loans of
+    /// all 64 guards that a map may have.
+    ///
+    /// ```
+    /// # fn main() -> Result<(), Box<dyn std::error::Error>> {
+    /// let mut guard = proved_congee::LiveBoxMap::new()?.pin()?;
+    /// guard.insert(7, Box::new(70)).unwrap();
+    /// guard.remove(7);
+    /// assert_eq!((guard.take_back(), guard.take_back()), (Some(Box::new(70)), None));
+    /// # Ok(())
+    /// # }
+    /// ```
+    pub fn take_back(&mut self) -> Option<P> {
+        let mut back = Lent::default();
+        let code = unsafe { congee_c_live_owners_reclaim(&mut self.handle(), &mut back) };
+        // SAFETY: the number is one of `offer`, and the library returns each owner once.
+        (code == 1).then(|| unsafe { P::from_pointer(pointer_of::<P>(&back)) })
     }
 
     /// Removes all keys, one by one, and drops each object that left the map and that no guard has lent. Keys that other

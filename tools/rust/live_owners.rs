@@ -245,7 +245,7 @@ fn raise(guard: &mut LiveOwnerGuard<Arc<Counted>>, key: u64) {
         let (ticket, number) = (loan.ticket(), loan.read(key) + 1);
         drop(loan);
         match guard.compare_exchange(key, ticket, Arc::new(Counted::new(key, number))) {
-            Ok(()) => return,
+            Ok(_) => return,
             Err(refused) => assert_eq!(*refused.error(), ExchangeError::Other),
         }
     }
@@ -298,6 +298,7 @@ fn one_by_one() -> Result<(), Box<dyn Error>> {
     other.compare_exchange(7, ticket, second.clone()).unwrap();
     let refused = other
         .compare_exchange(7, ticket, first.clone())
+        .map(drop)
         .unwrap_err();
     assert_eq!(*refused.error(), ExchangeError::Other);
     assert!(Arc::ptr_eq(&refused.into_owner(), &first));
