@@ -986,6 +986,10 @@ public:
     }
     /* Removes the key. Returns whether the key was present. */
     bool erase(std::uint64_t key) { return congee_live_owners_remove(handle_->map, key, nullptr) != CONGEE_ABSENT; }
+    /* Removes the key and returns true, if the key still has this ticket (loan::ticket). Otherwise returns false. */
+    bool compare_erase(std::uint64_t key, std::uint64_t ticket) {
+        return congee_live_owners_compare_remove(handle_->map, key, ticket, nullptr) == CONGEE_PRESENT;
+    }
     /* Removes the key, and lends the removed object, or returns none if the key was absent. (None, too, if the library can't
      * lend the object, which no test has met.) */
     loan take(std::uint64_t key) {

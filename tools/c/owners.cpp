@@ -109,6 +109,10 @@ template <class M> static void by_hand() {
         CHECK(gone->read(8) == 6 && map.reclaim() == 0 && gone->read(8) == 6);
     }
     CHECK(map.reclaim() == 1 && left() == 2 && !map.contains(8));
+    const std::uint64_t last = map.borrow(7).ticket();
+    CHECK(!map.compare_erase(7, first) && !map.compare_erase(8, last) && map.contains(7) && map.borrow(7).ticket() == last);
+    CHECK(map.compare_erase(7, last) && !map.compare_erase(7, last) && !map.contains(7) && map.reclaim() == 1 && left() == 1);
+    CHECK(map.insert_or_assign(7, fresh<M>(7, 7)) && left() == 2);
     CHECK(map.erase(7) && !map.erase(7) && map.reclaim() == 1 && left() == 1);
     CHECK(map.limit() == UINT64_MAX && map.charged() > 0 && map.usage() == congee_cpp::pair(map.charged(), UINT64_MAX));
     CHECK(congee_live_owners_get(map.native(), UINT64_MAX, nullptr) == CONGEE_PRESENT);
@@ -137,6 +141,7 @@ template <class M> static void waiting() {
     waits<M>(1, [](M &map, std::uint64_t key) { map.compare_exchange(key, map.borrow(key).ticket(), fresh<M>(key, 1)); });
     waits<M>(0, [](M &map, std::uint64_t key) { map.take(key); });
     waits<M>(0, [](M &map, std::uint64_t key) { map.erase(key); });
+    waits<M>(0, [](M &map, std::uint64_t key) { map.compare_erase(key, map.borrow(key).ticket()); });
 }
 
 template <class M> static void loans() {
