@@ -331,7 +331,8 @@ static void nodes() {
 
 template <class M> static void refusals() {
     CHECK(throws<std::bad_alloc>([] { M(4095); }));
-    M map(4096);
+    // (the first handle has what is left of the one segment)
+    M first(4096), map(first);
     auto mine = fresh<M>(7, 70);
     const counted *address = mine.get();
     CHECK(throws<std::bad_alloc>([&] { map.insert_or_assign(7, std::move(mine)); }) && mine.get() == address);
