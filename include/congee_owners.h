@@ -35,6 +35,7 @@
  * are tickets: numbers that are issued once, each for one owner. Proved is:
  *
  *   - The calls of tickets have one legal history, as the calls of congee_live.h have.
+ *   - Searches, pages and counts read keys and their tickets as those of congee_live.h read pairs.
  *   - The owner that comes with a ticket is the owner that the ticket was issued for.
  *   - A ticket comes back for release to a handle once at most. Of two handles that meet, one at most gets it back.
  *   - The owner of a ticket that came back to a handle is lent neither to that handle, nor to a handle that meets it.
