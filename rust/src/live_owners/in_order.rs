@@ -28,7 +28,7 @@ impl<P: Pointer> ReadTickets for LiveOwnerGuard<P> {
         let (place, n) = (buffer.as_mut_ptr(), buffer.len());
         waiting(|| {
             let mut written = 0;
-            // SAFETY: as above the calls of the guard. The buffer is borrowed as `&mut`, and has so many pairs. A page ends no loan.
+            // SAFETY: as of the guard's other calls. The buffer is borrowed as `&mut`, and has room for `n` pairs.
             let code = unsafe { read(&mut self.handle(), start, last, place, n, &mut written) };
             unless_busy(code, |_| written as usize)
         })
