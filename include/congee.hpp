@@ -75,24 +75,24 @@ inline std::optional<pair> pair_if(int code, const congee_pair &at) {
     return code ? std::optional<pair>(std::in_place, at.key, at.value) : std::nullopt;
 }
 
-/* Calls the function with all pairs from first to last, and reads them in pages of so many pairs by `read`. */
-template <std::size_t page, class R, class F> void each(std::uint64_t first, std::uint64_t last, R read, F f) {
-    congee_pair pairs[page] = {};
-    for (std::size_t n; (n = read(first, last, pairs, page)) > 0; first = pairs[n - 1].key + 1) {
+/* Calls the function with all pairs from first to last, and reads them by `read`, in pages of 256 pairs. */
+template <class R, class F> void each(std::uint64_t first, std::uint64_t last, R read, F f) {
+    congee_pair pairs[CONGEE_PAGE] = {};
+    for (std::size_t n; (n = read(first, last, pairs, CONGEE_PAGE)) > 0; first = pairs[n - 1].key + 1) {
         for (std::size_t i = 0; i < n; i++)
             f(pairs[i].key, pairs[i].value);
-        if (n < page || pairs[n - 1].key >= last)
+        if (n < CONGEE_PAGE || pairs[n - 1].key >= last)
             return;
     }
 }
 
-/* Calls the function with all pairs from last down to first, and reads them in pages of so many pairs by `read`. */
-template <std::size_t page, class R, class F> void each_down(std::uint64_t first, std::uint64_t last, R read, F f) {
-    congee_pair pairs[page] = {};
-    for (std::size_t n; (n = read(first, last, pairs, page)) > 0; last = pairs[n - 1].key - 1) {
+/* Calls the function with all pairs from last down to first, and reads them by `read`, in pages of 256 pairs. */
+template <class R, class F> void each_down(std::uint64_t first, std::uint64_t last, R read, F f) {
+    congee_pair pairs[CONGEE_PAGE] = {};
+    for (std::size_t n; (n = read(first, last, pairs, CONGEE_PAGE)) > 0; last = pairs[n - 1].key - 1) {
         for (std::size_t i = 0; i < n; i++)
             f(pairs[i].key, pairs[i].value);
-        if (n < page || pairs[n - 1].key <= first)
+        if (n < CONGEE_PAGE || pairs[n - 1].key <= first)
             return;
     }
 }
@@ -254,7 +254,7 @@ public:
     template <class F> void each(std::uint64_t first, std::uint64_t last, F f) const {
         const congee *of = map_;
         if (of && first <= last)
-            inner::each<256>(
+            inner::each(
                 first, last,
                 [of](std::uint64_t low, std::uint64_t high, congee_pair *pairs, std::size_t n) {
                     return congee_range_inclusive(of, low, high, pairs, n);
@@ -267,7 +267,7 @@ public:
     template <class F> void each_descending(std::uint64_t first, std::uint64_t last, F f) const {
         const congee *of = map_;
         if (of && first <= last)
-            inner::each_down<256>(
+            inner::each_down(
                 first, last,
                 [of](std::uint64_t low, std::uint64_t high, congee_pair *pairs, std::size_t n) {
                     return congee_range_descending(of, low, high, pairs, n);
@@ -711,11 +711,11 @@ public:
     /* Removes all pairs: of a shared map at one moment, and of a live map one by one. */
     void clear() { C::clear(map_); }
     /* Calls the function with the key and the value of each pair from first to last, keys ascending. The call reads pages
-     * of 64 pairs, and calls of other threads come in between. */
+     * of 256 pairs, and calls of other threads come in between. */
     template <class F> void each(std::uint64_t first, std::uint64_t last, F f) {
         native_type *of = map_;
         if (first <= last)
-            inner::each<64>(
+            inner::each(
                 first, last,
                 [of](std::uint64_t low, std::uint64_t high, congee_pair *pairs, std::size_t n) {
                     return C::range_inclusive(of, low, high, pairs, n);
@@ -724,11 +724,11 @@ public:
     }
     template <class F> void each(F f) { each(0, UINT64_MAX, f); }
     /* Calls the function with the key and the value of each pair from last down to first, keys descending. The call reads
-     * pages of 64 pairs, and calls of other threads come in between. A live map is searched for each pair. */
+     * pages of 256 pairs, and calls of other threads come in between. */
     template <class F> void each_descending(std::uint64_t first, std::uint64_t last, F f) {
         native_type *of = map_;
         if (first <= last)
-            inner::each_down<64>(
+            inner::each_down(
                 first, last,
                 [of](std::uint64_t low, std::uint64_t high, congee_pair *pairs, std::size_t n) {
                     return C::range_descending(of, low, high, pairs, n);
@@ -736,7 +736,7 @@ public:
                 f);
     }
     template <class F> void each_descending(F f) { each_descending(0, UINT64_MAX, f); }
-    /* Returns the keys from first to last, or the values of these keys, keys ascending. The call reads pages of 64 pairs, and
+    /* Returns the keys from first to last, or the values of these keys, keys ascending. The call reads pages of 256 pairs, and
      * calls of other threads come in between. */
     std::vector<std::uint64_t> keys(std::uint64_t first = 0, std::uint64_t last = UINT64_MAX) {
         std::vector<std::uint64_t> all;
@@ -754,7 +754,7 @@ public:
             try_emplace(std::get<0>(*first), std::get<1>(*first));
     }
     void insert(std::initializer_list<pair> pairs) { insert(pairs.begin(), pairs.end()); }
-    /* Returns a copy of the pairs, made of pages of 64 pairs, without a limit. The copy has each key as of a moment of the
+    /* Returns a copy of the pairs, made of pages of 256 pairs, without a limit. The copy has each key as of a moment of the
      * call, and each key that is present throughout is in the copy. Calls of other threads come in between two pages, and of a
      * live map within a page. So a map that others change may never have had just these pairs. */
     map snapshot() {
@@ -1012,8 +1012,8 @@ public:
     loan floor(std::uint64_t key) { return found(congee_live_owners_floor, key); }
     loan below(std::uint64_t key) { return found(congee_live_owners_below, key); }
     /* Calls the function with each key from first to last, keys ascending, and with a reference to the key's object. The call
-     * reads pages of 64 keys. Each key is read at a moment of its own, and each key that is present throughout the call is
-     * among them. The object is lent while the function runs, until the function calls the map by this handle. */
+     * reads pages of 16 keys, then 256 each. Each key is read at a moment of its own, and each key that is present throughout
+     * the call is among them. The object is lent while the function runs, until the function calls the map by this handle. */
     template <class F> void each(std::uint64_t first, std::uint64_t last, F f) {
         const loan visited = of_visits();
         congee_live_owners_each(handle_->map, first, last, visit<F>, &f);
@@ -1026,7 +1026,7 @@ public:
         congee_live_owners_each_descending(handle_->map, first, last, visit<F>, &f);
     }
     template <class F> void each_descending(F f) { each_descending(0, UINT64_MAX, f); }
-    /* Returns the keys from first to last, keys ascending. The call reads pages of 64 keys. */
+    /* Returns the keys from first to last, keys ascending. The call reads pages as `each` does. */
     std::vector<std::uint64_t> keys(std::uint64_t first = 0, std::uint64_t last = UINT64_MAX) {
         std::vector<std::uint64_t> all;
         each(first, last, [&all](std::uint64_t key, const object &) { all.push_back(key); });

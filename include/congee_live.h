@@ -848,47 +848,53 @@ static inline int congee_live_pop_last(struct congee_live *map, struct congee_pa
 /* -- Many pairs -- */
 
 /* Calls f(pair, with) for each pair with start <= key <= last, keys ascending, until a call returns something else than
- * 0. Returns what the last call of f returned, or 0 without a call. Reads pages of 64 pairs by
- * congee_live_range_inclusive. So each key is read at a moment of its own, and each key that is present throughout the
- * call is among them. Nothing is locked while f runs, so f may call the map, by this handle too. While writers lock or
- * change nodes on the way, the call yields and tries again. */
+ * 0. Returns what the last call of f returned, or 0 without a call. Reads pages by congee_live_range_inclusive: 16
+ * pairs, then 256 each. So each key is read at a moment of its own, and each key that is present throughout the call is
+ * among them. Nothing is locked while f runs, so f may call the map, by this handle too. While writers lock or change
+ * nodes on the way, the call yields and tries again. */
 static inline int congee_live_each(const struct congee_live *map, uint64_t start, uint64_t last, congee_visitor *f,
                                    void *with) {
-    struct congee_pair page[64] = {{0, 0}};
-    size_t n;
-    while ((n = congee_live_range_inclusive(map, start, last, page, 64)) > 0) {
+    struct congee_pair page[CONGEE_PAGE];
+    size_t room = CONGEE_FIRST_PAGE, ready = 0, n;
+    for (;;) {
+        for (; ready < room; ready++)
+            page[ready].key = page[ready].value = 0;
+        n = congee_live_range_inclusive(map, start, last, page, room);
         for (size_t i = 0; i < n; i++) {
             int code = f(page[i], with);
             if (code != 0)
                 return code;
         }
-        if (n < 64 || page[63].key == last)
+        if (n < room || page[n - 1].key == last)
             return 0;
-        start = page[63].key + 1;
+        start = page[n - 1].key + 1;
+        room = CONGEE_PAGE;
     }
-    return 0;
 }
 
 /* Calls f(pair, with) for each pair with start <= key <= last, keys descending, until a call returns something else
- * than 0. Returns what the last call of f returned, or 0 without a call. Reads pages of 64 pairs by
- * congee_live_range_descending, so each key is read at a moment of its own, and each key that is present throughout the
- * call is among them. Nothing is locked while f runs, so f may call the map, by this handle too. While writers lock or
- * change nodes on the way, the call yields and tries again. */
+ * than 0. Returns what the last call of f returned, or 0 without a call. Reads pages by congee_live_range_descending:
+ * 16 pairs, then 256 each. So each key is read at a moment of its own, and each key that is present throughout the call
+ * is among them. Nothing is locked while f runs, so f may call the map, by this handle too. While writers lock or change
+ * nodes on the way, the call yields and tries again. */
 static inline int congee_live_each_descending(const struct congee_live *map, uint64_t start, uint64_t last,
                                               congee_visitor *f, void *with) {
-    struct congee_pair page[64] = {{0, 0}};
-    size_t n;
-    while ((n = congee_live_range_descending(map, start, last, page, 64)) > 0) {
+    struct congee_pair page[CONGEE_PAGE];
+    size_t room = CONGEE_FIRST_PAGE, ready = 0, n;
+    for (;;) {
+        for (; ready < room; ready++)
+            page[ready].key = page[ready].value = 0;
+        n = congee_live_range_descending(map, start, last, page, room);
         for (size_t i = 0; i < n; i++) {
             int code = f(page[i], with);
             if (code != 0)
                 return code;
         }
-        if (n < 64 || page[63].key == start)
+        if (n < room || page[n - 1].key == start)
             return 0;
-        last = page[63].key - 1;
+        last = page[n - 1].key - 1;
+        room = CONGEE_PAGE;
     }
-    return 0;
 }
 
 /* Inserts n pairs in their order, by a call of congee_live_insert for each. Between two of them calls of other handles

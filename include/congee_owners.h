@@ -502,10 +502,10 @@ static inline int congee_live_owners_below(struct congee_live_owners *map, uint6
 /* (the pages of the calls below) */
 static inline
 size_t congee_owners_page(struct congee_live_owners *map, bool up, uint64_t start, uint64_t last,
-                          struct congee_pair *page) {
+                          struct congee_pair *page, size_t room) {
     uint64_t n = 0;
-    while ((up ? congee_c_live_owners_range_inclusive(&map->handle, start, last, page, 64, &n)
-               : congee_c_live_owners_range_descending(&map->handle, start, last, page, 64, &n)) == CONGEE_BUSY)
+    while ((up ? congee_c_live_owners_range_inclusive(&map->handle, start, last, page, room, &n)
+               : congee_c_live_owners_range_descending(&map->handle, start, last, page, room, &n)) == CONGEE_BUSY)
         CONGEE_YIELD();
     return n;
 }
@@ -526,53 +526,59 @@ int congee_owners_visit(struct congee_live_owners *map, struct congee_pair at, c
 }
 
 /* Calls f(key, owner, with) for each key with start <= key <= last, keys ascending, until a call returns something else
- * than 0. Returns what the last call of f returned, or 0 without a call. Reads pages of 64 keys. So each key is read at
- * a moment of its own, and each key that is present throughout the call is among them. Other keys may be among them,
- * too.
+ * than 0. Returns what the last call of f returned, or 0 without a call. Reads pages of 16 keys, then 256 each. So each
+ * key is read at a moment of its own, and each key that is present throughout the call is among them. Other keys may be
+ * among them, too.
  *
  * The owner is lent to the handle while f runs, until f itself calls the map by this handle. Afterwards the handle has
  * no loan. Nothing is locked while f runs. While other threads are in the way, the call yields and tries again. The
  * call takes no memory. */
 static inline int congee_live_owners_each(struct congee_live_owners *map, uint64_t start, uint64_t last,
                                           congee_owner_visitor *f, void *with) {
-    struct congee_pair page[64] = {{0, 0}};
-    size_t n;
-    while ((n = congee_owners_page(map, true, start, last, page)) > 0) {
+    struct congee_pair page[CONGEE_PAGE];
+    size_t room = CONGEE_FIRST_PAGE, ready = 0, n;
+    for (;;) {
+        for (; ready < room; ready++)
+            page[ready].key = page[ready].value = 0;
+        n = congee_owners_page(map, true, start, last, page, room);
         for (size_t i = 0; i < n; i++) {
             int code = congee_owners_visit(map, page[i], f, with);
             if (code != 0)
                 return code;
         }
-        if (n < 64 || page[63].key == last)
+        if (n < room || page[n - 1].key == last)
             return 0;
-        start = page[63].key + 1;
+        start = page[n - 1].key + 1;
+        room = CONGEE_PAGE;
     }
-    return 0;
 }
 
 /* Calls f(key, owner, with) for each key with start <= key <= last, keys descending, until a call returns something
- * else than 0. Returns what the last call of f returned, or 0 without a call. Reads pages of 64 keys. So each key is
- * read at a moment of its own, and each key that is present throughout the call is among them. Other keys may be among
- * them, too.
+ * else than 0. Returns what the last call of f returned, or 0 without a call. Reads pages of 16 keys, then 256 each. So
+ * each key is read at a moment of its own, and each key that is present throughout the call is among them. Other keys
+ * may be among them, too.
  *
  * The owner is lent to the handle while f runs, until f itself calls the map by this handle. Afterwards the handle has
  * no loan. Nothing is locked while f runs. While other threads are in the way, the call yields and tries again. The
  * call takes no memory. */
 static inline int congee_live_owners_each_descending(struct congee_live_owners *map, uint64_t start, uint64_t last,
                                                      congee_owner_visitor *f, void *with) {
-    struct congee_pair page[64] = {{0, 0}};
-    size_t n;
-    while ((n = congee_owners_page(map, false, start, last, page)) > 0) {
+    struct congee_pair page[CONGEE_PAGE];
+    size_t room = CONGEE_FIRST_PAGE, ready = 0, n;
+    for (;;) {
+        for (; ready < room; ready++)
+            page[ready].key = page[ready].value = 0;
+        n = congee_owners_page(map, false, start, last, page, room);
         for (size_t i = 0; i < n; i++) {
             int code = congee_owners_visit(map, page[i], f, with);
             if (code != 0)
                 return code;
         }
-        if (n < 64 || page[63].key == start)
+        if (n < room || page[n - 1].key == start)
             return 0;
-        last = page[63].key - 1;
+        last = page[n - 1].key - 1;
+        room = CONGEE_PAGE;
     }
-    return 0;
 }
 
 /* Writes to *count how many keys the map has, and returns CONGEE_DONE. The count is exact where no other thread writes.

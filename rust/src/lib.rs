@@ -38,8 +38,9 @@
 //! # Cost
 //!
 //! A call of one key, an end or a neighbour reads one or two paths of at most eight nodes. `len`, `is_empty` and `charged` of
-//! a [`Map`] take constant time. Iterators read pages of pairs: 4, then 16, and then 64 at a time. Calls that look a key up or
-//! remove one take `7` and `&7`.
+//! a [`Map`] take constant time. Iterators read pages of pairs: 4, then 16, then 64, and 256 at a time once 256 were read. A
+//! page of 256 takes 4 KB of memory, and without that memory pages stay at 64. A clone of an iterator takes no memory, and
+//! reads anew what is left. Calls that look a key up or remove one take `7` and `&7`.
 //!
 //! # Keys and values of other types
 //!

@@ -1414,7 +1414,7 @@ impl LiveGuard {
     }
 
     /// Returns the pairs whose keys are within the bounds, keys ascending, from either end. The pairs are read in pages of
-    /// 4, then 16, and then 64. Each key has the value of a moment during the iteration, and a key that is present
+    /// 4, and later up to 256. Each key has the value of a moment during the iteration, and a key that is present
     /// throughout is returned.
     ///
     /// ```
@@ -1432,7 +1432,7 @@ impl LiveGuard {
         loops::range(self, bounds)
     }
 
-    /// Returns all pairs, keys ascending, from either end. The pairs are read in pages of 4, then 16, and then 64. Each key
+    /// Returns all pairs, keys ascending, from either end. The pairs are read in pages of 4, and later up to 256. Each key
     /// has the value of a moment during the iteration, and a key that is present throughout is returned.
     ///
     /// ```
@@ -1451,7 +1451,7 @@ impl LiveGuard {
         self.range(..)
     }
 
-    /// Returns all keys, ascending, from either end. The pairs are read in pages of 4, then 16, and then 64. Each key has the
+    /// Returns all keys, ascending, from either end. The pairs are read in pages of 4, and later up to 256. Each key has the
     /// value of a moment during the iteration, and a key that is present throughout is returned.
     ///
     /// ```
@@ -1466,7 +1466,7 @@ impl LiveGuard {
         Keys { of: self.iter() }
     }
 
-    /// Returns all values, by ascending keys, from either end. The pairs are read in pages of 4, then 16, and then 64. Each
+    /// Returns all values, by ascending keys, from either end. The pairs are read in pages of 4, and later up to 256. Each
     /// key has the value of a moment during the iteration, and a key that is present throughout is returned.
     ///
     /// ```

@@ -1,7 +1,7 @@
 //! The map that one thread has.
 
 use crate::frozen::Frozen;
-use crate::pages::{ends, IntoIter, Keys, Range, Source, Values, PAGE};
+use crate::pages::{ends, IntoIter, Keys, Range, Source, Values};
 use crate::sys::*;
 use crate::{OutOfMemory, Pair};
 use std::borrow::Borrow;
@@ -571,7 +571,7 @@ impl Map {
     /// # }
     /// ```
     pub fn retain(&mut self, mut keep: impl FnMut(u64, u64) -> bool) {
-        let mut page = [Pair::default(); PAGE];
+        let mut page = [Pair::default(); 64];
         let mut next = Some(0);
         while let Some(start) = next {
             let read = self.read_range_inclusive(start, u64::MAX, &mut page);
@@ -731,7 +731,7 @@ impl Map {
     }
 
     /// Returns the pairs whose keys are within the bounds, keys ascending, from either end. Reversed bounds have no pair.
-    /// The pairs are read from the map in pages, at either end the first of 4 pairs and each four times as long, up to 64.
+    /// The pairs are read from the map in pages: at either end the first of 4 pairs, and later ones of up to 256.
     ///
     /// ```
     /// # fn main() -> Result<(), proved_congee::OutOfMemory> {

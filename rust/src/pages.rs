@@ -9,9 +9,10 @@ use std::fmt;
 use std::iter::FusedIterator;
 use std::ops::{Bound, RangeBounds};
 
-/// How many pairs are read at once, at most and at first.
-pub(crate) const PAGE: usize = 64;
+/// How many pairs are read at once: at first, then up to a page in the iterator itself, and on the heap once as many were read.
 const FIRST_PAGE: usize = 4;
+const PAGE: usize = 64;
+const LARGE_PAGE: usize = 256;
 
 /// Pages of a map of objects: keys from `start` to `last`, each with its ticket, ascending or descending.
 pub(crate) trait ReadTickets {
@@ -52,22 +53,26 @@ impl Source<'_> {
 }
 
 /// Pairs that were read at one end of a range and not returned yet, that end's first.
-#[derive(Clone)]
 struct Page {
     pairs: [Pair; PAGE],
+    /// The places of a large page, in use once there are any.
+    large: Vec<Pair>,
     at: usize,
     filled: usize,
-    /// How many pairs are read next.
+    /// How many pairs are read next, and how many were read.
     room: usize,
+    read: usize,
 }
 
 impl Page {
     fn empty() -> Page {
         Page {
             pairs: [Pair::default(); PAGE],
+            large: Vec::new(),
             at: 0,
             filled: 0,
             room: FIRST_PAGE,
+            read: 0,
         }
     }
 
@@ -75,30 +80,68 @@ impl Page {
         self.filled - self.at
     }
 
-    // Fills the page, and returns the last pair where there was no room for more.
-    fn fill(&mut self, read: impl FnOnce(&mut [Pair]) -> usize) -> Option<Pair> {
-        let room = self.room;
-        self.at = 0;
-        self.filled = read(&mut self.pairs[..room]);
-        self.room = PAGE.min(room * 4);
-        (self.filled == room).then(|| self.pairs[room - 1])
+    // One that was read.
+    #[inline]
+    fn pair(&self, at: usize) -> Pair {
+        if self.large.is_empty() {
+            self.pairs[at]
+        } else {
+            self.large[at]
+        }
     }
 
+    // The least and the greatest key that is left.
+    fn keys(&self) -> Option<(u64, u64)> {
+        let last = self.filled.checked_sub(1).filter(|&last| self.at <= last)?;
+        let (one, other) = (self.pair(self.at).key, self.pair(last).key);
+        Some((one.min(other), one.max(other)))
+    }
+
+    // The places of the next page. Without memory for a large one it is a small one.
+    fn places(&mut self) -> &mut [Pair] {
+        if self.read >= LARGE_PAGE && self.large.is_empty() {
+            if self.large.try_reserve_exact(LARGE_PAGE).is_ok() {
+                self.large.resize(LARGE_PAGE, Pair::default());
+            }
+        }
+        if self.large.is_empty() {
+            &mut self.pairs[..self.room]
+        } else {
+            &mut self.large
+        }
+    }
+
+    // Fills the page, and returns the last pair where there was no room for more.
+    fn fill(&mut self, read: impl FnOnce(&mut [Pair]) -> usize) -> Option<Pair> {
+        let places = self.places();
+        let filled = read(places);
+        let last = (filled == places.len()).then(|| places[filled - 1]);
+        self.at = 0;
+        self.filled = filled;
+        self.room = PAGE.min(self.room * 4);
+        self.read = self.read.saturating_add(filled);
+        last
+    }
+
+    #[inline]
     fn take_first(&mut self) -> Option<Pair> {
-        let pair = *self.pairs[..self.filled].get(self.at)?;
+        if self.at == self.filled {
+            return None;
+        }
         self.at += 1;
-        Some(pair)
+        Some(self.pair(self.at - 1))
     }
 
     fn take_last(&mut self) -> Option<Pair> {
-        let pair = *self.pairs[self.at..self.filled].last()?;
+        if self.at == self.filled {
+            return None;
+        }
         self.filled -= 1;
-        Some(pair)
+        Some(self.pair(self.filled))
     }
 }
 
 /// What is left of a range: what was read at its two ends, and the keys between these.
-#[derive(Clone)]
 pub(crate) struct Cursor {
     front: Page,
     /// (none until the end is asked for)
@@ -122,6 +165,20 @@ pub(crate) fn ends(bounds: impl RangeBounds<u64>) -> Option<(u64, u64)> {
     start.zip(last).filter(|(start, last)| start <= last)
 }
 
+impl Clone for Cursor {
+    /// Takes no memory: what is left is read anew.
+    fn clone(&self) -> Cursor {
+        let back = self.back.as_ref().and_then(Page::keys);
+        let parts = [self.front.keys(), self.unread, back];
+        let (first, last) = (parts.iter().flatten().next(), parts.iter().flatten().last());
+        Cursor {
+            front: Page::empty(),
+            back: None,
+            unread: first.zip(last).map(|(first, last)| (first.0, last.1)),
+        }
+    }
+}
+
 impl Cursor {
     pub(crate) fn of(bounds: impl RangeBounds<u64>) -> Cursor {
         Cursor {
@@ -131,30 +188,42 @@ impl Cursor {
         }
     }
 
+    #[inline]
     pub(crate) fn next(&mut self, source: Source<'_>) -> Option<Pair> {
-        if self.front.len() == 0 {
-            if let Some((start, last)) = self.unread.take() {
-                self.unread = self
-                    .front
-                    .fill(|page| source.read_ascending(start, last, page))
-                    .filter(|read| read.key < last)
-                    .map(|read| (read.key + 1, last));
-            }
+        self.front.take_first().or_else(|| self.read_first(source))
+    }
+
+    #[inline]
+    pub(crate) fn next_back(&mut self, source: Source<'_>) -> Option<Pair> {
+        self.back
+            .as_mut()
+            .and_then(Page::take_first)
+            .or_else(|| self.read_last(source))
+    }
+
+    // Apart from `next`, which is inlined into loops.
+    #[inline(never)]
+    fn read_first(&mut self, source: Source<'_>) -> Option<Pair> {
+        if let Some((start, last)) = self.unread.take() {
+            self.unread = self
+                .front
+                .fill(|page| source.read_ascending(start, last, page))
+                .filter(|read| read.key < last)
+                .map(|read| (read.key + 1, last));
         }
         self.front
             .take_first()
             .or_else(|| self.back.as_mut()?.take_last())
     }
 
-    pub(crate) fn next_back(&mut self, source: Source<'_>) -> Option<Pair> {
+    #[inline(never)]
+    fn read_last(&mut self, source: Source<'_>) -> Option<Pair> {
         let back = self.back.get_or_insert_with(Page::empty);
-        if back.len() == 0 {
-            if let Some((start, last)) = self.unread.take() {
-                self.unread = back
-                    .fill(|page| source.read_descending(start, last, page))
-                    .filter(|read| start < read.key)
-                    .map(|read| (start, read.key - 1));
-            }
+        if let Some((start, last)) = self.unread.take() {
+            self.unread = back
+                .fill(|page| source.read_descending(start, last, page))
+                .filter(|read| start < read.key)
+                .map(|read| (start, read.key - 1));
         }
         back.take_first().or_else(|| self.front.take_last())
     }
@@ -165,6 +234,7 @@ impl Cursor {
     }
 }
 
+#[inline]
 fn key_and_value(pair: Pair) -> (u64, u64) {
     (pair.key, pair.value)
 }
@@ -189,6 +259,7 @@ impl<'a> Range<'a> {
 impl Iterator for Range<'_> {
     type Item = (u64, u64);
 
+    #[inline]
     fn next(&mut self) -> Option<(u64, u64)> {
         self.cursor.next(self.source).map(key_and_value)
     }
@@ -199,6 +270,7 @@ impl Iterator for Range<'_> {
 }
 
 impl DoubleEndedIterator for Range<'_> {
+    #[inline]
     fn next_back(&mut self) -> Option<(u64, u64)> {
         self.cursor.next_back(self.source).map(key_and_value)
     }
@@ -221,6 +293,7 @@ pub struct Keys<'a> {
 impl Iterator for Keys<'_> {
     type Item = u64;
 
+    #[inline]
     fn next(&mut self) -> Option<u64> {
         self.of.next().map(|(key, _)| key)
     }
@@ -231,6 +304,7 @@ impl Iterator for Keys<'_> {
 }
 
 impl DoubleEndedIterator for Keys<'_> {
+    #[inline]
     fn next_back(&mut self) -> Option<u64> {
         self.of.next_back().map(|(key, _)| key)
     }
@@ -248,6 +322,7 @@ pub struct Values<'a> {
 impl Iterator for Values<'_> {
     type Item = u64;
 
+    #[inline]
     fn next(&mut self) -> Option<u64> {
         self.of.next().map(|(_, value)| value)
     }
@@ -258,6 +333,7 @@ impl Iterator for Values<'_> {
 }
 
 impl DoubleEndedIterator for Values<'_> {
+    #[inline]
     fn next_back(&mut self) -> Option<u64> {
         self.of.next_back().map(|(_, value)| value)
     }
@@ -284,6 +360,7 @@ impl IntoIter {
 impl Iterator for IntoIter {
     type Item = (u64, u64);
 
+    #[inline]
     fn next(&mut self) -> Option<(u64, u64)> {
         self.cursor.next(Source::Map(&self.map)).map(key_and_value)
     }
@@ -294,6 +371,7 @@ impl Iterator for IntoIter {
 }
 
 impl DoubleEndedIterator for IntoIter {
+    #[inline]
     fn next_back(&mut self) -> Option<(u64, u64)> {
         self.cursor
             .next_back(Source::Map(&self.map))

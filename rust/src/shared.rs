@@ -1442,7 +1442,7 @@ impl Guard {
     }
 
     /// Returns the pairs whose keys are within the bounds, keys ascending, from either end. The pairs are read in pages of
-    /// 4, then 16, and then 64. The pairs of a page are of one moment, and other calls come in between two pages. A key
+    /// 4, and later up to 256. The pairs of a page are of one moment, and other calls come in between two pages. A key
     /// that is present throughout is returned.
     ///
     /// ```
@@ -1459,7 +1459,7 @@ impl Guard {
         loops::range(self, bounds)
     }
 
-    /// Returns all pairs, keys ascending, from either end. The pairs are read in pages of 4, then 16, and then 64. The
+    /// Returns all pairs, keys ascending, from either end. The pairs are read in pages of 4, and later up to 256. The
     /// pairs of a page are of one moment, and other calls come in between two pages. A key that is present throughout is
     /// returned.
     ///
@@ -1476,7 +1476,7 @@ impl Guard {
         self.range(..)
     }
 
-    /// Returns all keys, ascending, from either end. The pairs are read in pages of 4, then 16, and then 64. The pairs of a
+    /// Returns all keys, ascending, from either end. The pairs are read in pages of 4, and later up to 256. The pairs of a
     /// page are of one moment, and other calls come in between two pages. A key that is present throughout is returned.
     ///
     /// ```
@@ -1491,7 +1491,7 @@ impl Guard {
         Keys { of: self.iter() }
     }
 
-    /// Returns all values, by ascending keys, from either end. The pairs are read in pages of 4, then 16, and then 64. The
+    /// Returns all values, by ascending keys, from either end. The pairs are read in pages of 4, and later up to 256. The
     /// pairs of a page are of one moment, and other calls come in between two pages. A key that is present throughout is
     /// returned.
     ///
@@ -1524,7 +1524,7 @@ impl Guard {
         loops::remove_range(self, bounds)
     }
 
-    /// Copies the pairs into a map of their own, without a limit. The copy is made of pages of 4, then 16, and then 64
+    /// Copies the pairs into a map of their own, without a limit. The copy is made of pages of 4, and later up to 256
     /// pairs, each page of one moment. Other calls come in between two pages. A key that is present throughout the call is
     /// in the copy, with a value that it had meanwhile. If other calls change the map, the map may never have had just
     /// these pairs. [`Map::freeze`] makes readers of the copy. While other calls have the lock, the call yields and tries

@@ -51,6 +51,7 @@ struct form {
     int (*remove)(void *map, uint64_t key, uint64_t *old);
     int (*compute)(void *map, uint64_t key, congee_updater *f, void *with, uint64_t *old);
     int (*try_compute)(void *map, uint64_t key, congee_updater *f, void *with, uint64_t *old);
+    int (*each)(void *map, uint64_t start, uint64_t last, congee_visitor *f, void *with);
     int (*each_descending)(void *map, uint64_t start, uint64_t last, congee_visitor *f, void *with);
     size_t (*insert_many)(void *map, const struct congee_pair *pairs, size_t n);
     uint64_t (*remove_range)(void *map, uint64_t start, uint64_t last);
@@ -81,6 +82,7 @@ struct form {
     CALL(form, int, insert, (void *it, uint64_t key, uint64_t value, uint64_t *old), it, key, value, old)                   \
     CALL(form, int, remove, (void *it, uint64_t key, uint64_t *old), it, key, old)                                          \
     CALL(form, int, compute, (void *it, uint64_t key, congee_updater *f, void *with, uint64_t *old), it, key, f, with, old) \
+    CALL(form, int, each, (void *it, uint64_t from, uint64_t last, congee_visitor *f, void *with), it, from, last, f, with) \
     CALL(form, int, each_descending, (void *it, uint64_t from, uint64_t last, congee_visitor *f, void *with), it, from,     \
          last, f, with)                                                                                                     \
     CALL(form, size_t, insert_many, (void *it, const struct congee_pair *pairs, size_t n), it, pairs, n)                    \
@@ -112,7 +114,7 @@ MAKE(live, struct congee_live, congee_live_new(&it), congee_live_new_with_limit(
 
 #define ENTRIES(form)                                                                                                       \
     .free = form##_free, .get = form##_get, .insert = form##_insert, .remove = form##_remove, .compute = form##_compute,    \
-    .each_descending = form##_each_descending, .insert_many = form##_insert_many,                                           \
+    .each = form##_each, .each_descending = form##_each_descending, .insert_many = form##_insert_many,                      \
     .remove_range = form##_remove_range_inclusive, .count = form##_count, .limit = form##_limit, .usage = form##_usage
 #define SHARED_ENTRIES                                                                                                      \
     ENTRIES(shared), .try_compute = shared_try_compute, .try_limit = shared_try_limit, .snapshot = shared_snapshot,         \
@@ -276,12 +278,14 @@ static uint64_t key_of(uint64_t i, uint64_t n) {
 
 struct walk {
     uint64_t left, n;
+    bool up;
 };
 
 static int walks(struct congee_pair pair, void *with) {
     struct walk *walk = with;
     walk->left--;
-    need(pair.key == key_of(walk->left, walk->n) && pair.value == walk->left, "the next pair downwards");
+    const uint64_t i = walk->up ? walk->n - 1 - walk->left : walk->left;
+    need(pair.key == key_of(i, walk->n) && pair.value == i, "the next pair");
     return 0;
 }
 
@@ -296,10 +300,11 @@ enum { LENGTHS = sizeof lengths / sizeof *lengths };
 
 static void call_long_loops(void) {
     for (size_t i = 0; i < LENGTHS; i++) {
-        struct walk walk = {lengths[i], lengths[i]};
+        struct walk down = {lengths[i], lengths[i], false}, up = {lengths[i], lengths[i], true};
         void *map = form->make(NO_LIMIT);
         fill(map, lengths[i]);
-        need(form->each_descending(map, 0, UINT64_MAX, walks, &walk) == 0 && walk.left == 0, "a loop by pages");
+        need(form->each_descending(map, 0, UINT64_MAX, walks, &down) == 0 && down.left == 0, "a loop by pages");
+        need(form->each(map, 0, UINT64_MAX, walks, &up) == 0 && up.left == 0, "a loop by pages upwards");
         need(form->remove_range(map, 0, UINT64_MAX - 1) == lengths[i] - 1, "a removal by pages");
         need(form->count(map) == 1, "what a removal by pages leaves");
         form->free(map);
@@ -323,7 +328,7 @@ static void call_reader(void) {
         call_loop(frozen_each_descending, reader, &loops[i]);
     congee_frozen_free(reader);
     for (size_t i = 0; i < LENGTHS; i++) {
-        struct walk walk = {lengths[i], lengths[i]};
+        struct walk walk = {lengths[i], lengths[i], false};
         need(congee_new(&map) == CONGEE_DONE, "a map");
         fill(map, lengths[i]);
         need(congee_freeze(&map, &reader) == CONGEE_DONE, "a reader of pages");

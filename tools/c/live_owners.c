@@ -418,7 +418,7 @@ static void call_visits(void) {
     for (uint64_t i = 0; i < COUNT; i++)
         need(visit.keys[i] == 3 * (COUNT - 1 - i), "keys descend");
     /* both ends are included, and a page may end at one */
-    for (uint64_t n = 1; n < COUNT; n += 21) {
+    for (uint64_t n = 1; n < COUNT; n += n % 16 ? 15 : 16) {
         visit.visited = 0;
         need(congee_live_owners_each(map, 6, 6 + 3 * (n - 1), visits, &visit) == 0 && visit.visited == n &&
                  visit.keys[n - 1] == 6 + 3 * (n - 1), "a range upwards");

@@ -117,26 +117,27 @@ def threads(data):
 
 
 def beside(data):
-    """The same of maps of others."""
+    """A panel for each kind of keys and each call; in it a line for each map, of others, too."""
     title = "Nanoseconds a call of maps that threads share, by one, two and four threads"
     return by_threads(data, title, BESIDE, BESIDE_CALLS, "nanoseconds a call of all threads together, by powers of ten")
 
 
-def by_threads(data, title, forms, calls, unit):
+def by_threads(data, title, forms, calls, unit, kinds=("dense", "random")):
     rows = {(row["keys"], row["form"]): row for row in data["rows"] if row["form"] in forms}
-    forms = {form: words for form, words in forms.items() if ("dense", form) in rows}
+    forms = {form: words for form, words in forms.items() if (kinds[0], form) in rows}
     listed = {it: ", ".join(f"{words} {'/'.join(map(str, numbers(row, call).values()))}" for call, words in calls.items())
             for it, row in rows.items()}
     text = "; ".join(f"{keys} keys, {forms[form][0]}: {times}" for (keys, form), times in listed.items())
-    sheet = Sheet(860, 568, title, text, RULES)
+    height = 80 + 244 * len(kinds)
+    sheet = Sheet(860, height, title, text, RULES)
     legend(sheet, forms.values(), 60, 24)
-    sheet.text(846, 556, unit, "quiet small end")
+    sheet.text(846, height - 12, unit, "quiet small end")
     marks = steps([number for row in rows.values() for call in calls for number in numbers(row, call).values()])
-    for down, keys in enumerate(("dense", "random")):
+    for down, keys in enumerate(kinds):
         for across, (call, words) in enumerate(calls.items()):
             left, top = 60 + 264 * across, 66 + 244 * down
             lines = {form: numbers(rows[keys, form], call) for form in forms}
-            sheet.text(left, top - 12, f"{words}, {keys} keys", "strong")
+            sheet.text(left, top - 12, f"{words}, {keys if keys.endswith('s') else f'{keys} keys'}", "strong")
             threads_panel(sheet, forms, lines, left, Scale(marks, top + 196, top), across == 0)
     return sheet
 

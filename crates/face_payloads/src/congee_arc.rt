@@ -14,6 +14,7 @@ ghost use Rattle.tree_edit.specs.Tree.{root_alone};
 mod bulk;
 pub mod iter;
 mod near;
+mod numbers;
 
 use congee_tree::by_number;
 use congee_tree::tree::RawCongee;

@@ -87,8 +87,12 @@ fn try_filled(alloc: Global, numbers: &[(u64, u64)]) -> Result<(Pool, Guard), Re
     Ok((pool, guard))
 }
 
-// A new map with these pairs, and a guard that has seen them. Goes on where it was busy.
-fn filled<R: Wait>(rt: &R, alloc: Global, numbers: &[(u64, u64)]) -> Result<(Pool, Guard), OOMError>
+/// A new map with these pairs, by their numbers, and a guard that has seen them. Goes on where it was busy.
+pub fn filled<R: Wait>(
+    rt: &R,
+    alloc: Global,
+    numbers: &[(u64, u64)],
+) -> Result<(Pool, Guard), OOMError>
     ensures { IfOk result (λ both. (both.1.book ≡ both.0)
         × IsHistory nat_eq both.1.seen numbers.now) }
 {

@@ -8,6 +8,7 @@ ghost use Rattle.live_growth.specs.Calls.{IsReady, Inserts};
 use crate::grow_node::grow_node;
 use crate::link::{NEW, Room, link};
 use crate::map::Refusal;
+use crate::refill::Refills;
 use crate::room::spare_or_made;
 use crate::split::split;
 use crate::write::{Hindrance, insert_here};
@@ -263,16 +264,17 @@ pub fn make_room(nodes: &Nodes, alloc: Global, room: &mut Room, seat: &mut Seat)
     !(is_last & was_last)
 }
 
-/// Inserts a value, as by `insert_once`. Where a node is lacking, there is more room instead: `Busy`. `OutOfMemory` where there is no
-/// memory for that, nor a larger node.
-pub(crate) fn try_insert(
+/// Inserts a value, as by `insert_once`. Where a node is lacking, more are asked for instead: `Busy`. `OutOfMemory` where there are
+/// none, nor a larger one.
+pub(crate) fn try_insert<R: Refills>(
     nodes: &Nodes,
-    alloc: Global,
+    from: &R,
     key: u64,
     value: u64,
     room: &mut Room,
     seat: &mut Seat,
 ) -> Result<Option<u64>, Refusal>
+    requires serves { R.serves from.now nodes.now }
     requires book { seat.old.book ≡ nodes.now }
     requires ready { IsReady seat.old.view room.old }
     ensures told { (seat.new.book ≡ seat.old.book) × (seat.new.id ≡ seat.old.id)
@@ -280,7 +282,7 @@ pub(crate) fn try_insert(
         × Inserts (ask seat.old.id key value 1) result seat.old.view seat.new.view }
 {
     let tried = insert_once(nodes, key, value, room, seat);
-    if tried == Err(Refusal::OutOfMemory) && make_room(nodes, alloc, room, seat) {
+    if tried == Err(Refusal::OutOfMemory) && from.refill(nodes, room, seat) {
         return Err(Refusal::Busy);
     }
     tried

@@ -15,6 +15,7 @@ pub mod insert;
 pub mod link;
 pub mod make_root;
 pub mod map;
+pub mod refill;
 pub mod room;
 pub mod source;
 pub mod split;

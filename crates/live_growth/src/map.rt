@@ -9,6 +9,7 @@ use crate::free_nodes::FreeNodes;
 use crate::insert::{reserve, try_insert};
 use crate::link::Room;
 use crate::make_root::make_root;
+use crate::refill::Refills;
 use live_nodes::heap::Heap;
 use live_reads::get::get_once;
 use live_reads::meeting::meet;
@@ -167,15 +168,17 @@ impl Congee {
         Err(Busy)
     }
 
-    /// Gives a key a value. The value before. Where there is no memory for more nodes, it is made if it needs none.
-    pub fn insert(
+    /// Gives a key a value. The value before. Where a node is lacking, `from` is asked for more. Where that has none either, the call
+    /// is made if it needs none.
+    pub fn insert<R: Refills>(
         &self,
-        alloc: Global,
+        from: &R,
         guard: &mut Guard,
         key: u64,
         value: u64,
     ) -> Result<Option<u64>, Refusal>
-        requires { guard.old.book ≡ self.now }
+        requires map { guard.old.book ≡ self.now }
+        requires serves { R.serves from.now self.now }
         ensures made { IfOk result (λ old. MadeCall guard.old
             (inserted (ask guard.old.caller key value 1) old) guard.new) }
         ensures refused { OnErr result (guard.new ≡ guard.old) }
@@ -183,7 +186,7 @@ impl Congee {
         for _ in 0..TRIES {
             match try_insert(
                 &self.nodes,
-                alloc,
+                from,
                 key,
                 value,
                 &mut guard.room,

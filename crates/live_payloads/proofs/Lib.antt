@@ -1,2 +1,3 @@
 mod Looked
+mod Moving
 mod Tried

@@ -9,6 +9,8 @@ mod closures;
 mod counts;
 mod exchanges;
 mod get_or_insert;
+mod keys;
+mod moves;
 mod neighbours;
 pub mod owners;
 mod pages;

@@ -11,6 +11,7 @@ ghost use Rattle.live_updates.specs.Closures.{Reaches, EndsWithCall};
 ghost use Rattle.live_updates.specs.ClosureEntries.{computed_with, inserted_with, sum_with};
 
 use crate::pool::Pool;
+use crate::supply::Supply;
 use live_growth::map::{Busy, Guard, Refusal};
 use live_updates::calls;
 use live_updates::computes::present;
@@ -31,7 +32,8 @@ impl Pool {
         ensures refused { IfErr result (λ why. Refused guard.old key why guard.new) }
     {
         let before = self.ready(guard);
-        match self.map.insert(alloc, guard, key, value) {
+        let from = Supply { pool: self, alloc };
+        match self.map.insert(&from, guard, key, value) {
             Ok(old) => {
                 self.settle(guard, before);
                 Ok(old)
@@ -88,7 +90,8 @@ impl Pool {
         ensures refused { IfErr result (λ why. Refused guard.old key why guard.new) }
     {
         let before = self.ready(guard);
-        match present::get_or_insert(&self.map, alloc, guard, key, value) {
+        let from = Supply { pool: self, alloc };
+        match present::get_or_insert(&self.map, &from, guard, key, value) {
             Ok(old) => {
                 self.settle(guard, before);
                 Ok(old)
@@ -111,7 +114,8 @@ impl Pool {
         ensures refused { IfErr result (λ why. Refused guard.old key why guard.new) }
     {
         let before = self.ready(guard);
-        match present::add(&self.map, alloc, guard, key, number) {
+        let from = Supply { pool: self, alloc };
+        match present::add(&self.map, &from, guard, key, number) {
             Ok(old) => {
                 self.settle(guard, before);
                 Ok(old)
@@ -162,7 +166,8 @@ impl Pool {
         ensures refused { IfErr result (λ why. Refused guard.old key why guard.new) }
     {
         let before = self.ready(guard);
-        match present::compute_or_insert(&self.map, alloc, guard, key, f) {
+        let from = Supply { pool: self, alloc };
+        match present::compute_or_insert(&self.map, &from, guard, key, f) {
             Ok(old) => {
                 self.settle(guard, before);
                 Ok(old)

@@ -3,7 +3,7 @@ ghost use Rattle.std.specs.Prelude.{◌≡◌, IfSome};
 ghost use Rattle.live_updates.specs.Refusals.{Refused};
 
 use crate::cleanup_queue;
-use crate::free_list::{FreeList, add_to, take_from};
+use crate::free_list::{FreeList, add_to};
 use crate::pool::{FORMS, Pool, STRIPES};
 use counted_slot::{Counted, MARKED};
 use live_detach::tidy::tidy;
@@ -16,9 +16,6 @@ use std::hint::spin_loop;
 
 /// How many nodes a removal takes out at most: one of each height below the root's.
 const HEIGHTS: usize = 7;
-
-/// How many words the largest node has.
-const LARGEST: u64 = 263;
 
 /// How many paths of earlier calls a call tidies at most.
 const EARLIER: usize = 2;
@@ -47,17 +44,12 @@ impl Pool {
         guard.room
     }
 
-    /// To be called before a call that may insert: a guard with few words left gets nodes of the free lists, and one too many goes
-    /// there. What it has then.
+    /// To be called before a call that may insert: a further node goes to the free list of its form. What the guard has then.
     pub fn ready(&self, guard: &mut Guard) -> Room
         requires map { guard.old.book ≡ self.now }
         ensures { guard.new ≡ guard.old }
     {
         self.leave(guard);
-        if guard.room.left < LARGEST && !guard.room.spare.is_full() {
-            self.supply(guard);
-            self.supply_further(guard);
-        }
         guard.room
     }
 
@@ -76,7 +68,7 @@ impl Pool {
         }
         self.tidy_earlier(guard);
         self.leave(guard);
-        self.supply(guard);
+        self.supply(&mut guard.room, &mut guard.seat);
     }
 
     /// To be called after an insertion that was refused, with why. It may have made a leaf before. Why it was refused then: it is
@@ -223,7 +215,7 @@ impl Pool {
     }
 
     // The free list of a form in a stripe.
-    fn free_list_at(&self, form: NodeType, stripe: usize) -> Option<&Counted<FreeList>>
+    pub(crate) fn free_list_at(&self, form: NodeType, stripe: usize) -> Option<&Counted<FreeList>>
         ensures { IfSome result (λ slot. slot.now ≡ self.now) }
     {
         let place = stripe
@@ -233,86 +225,13 @@ impl Pool {
     }
 
     // Whether another thread is at a free list of this form.
-    fn is_taken(&self, form: NodeType) -> bool {
+    pub(crate) fn is_taken(&self, form: NodeType) -> bool {
         for stripe in 0..STRIPES {
             if let Some(slot) = self.free_list_at(form, stripe) {
                 if slot.load() == MARKED {
                     return true;
                 }
             }
-        }
-        false
-    }
-
-    // A node of each form that the guard has none of, if there is one, and a second one of the smallest.
-    fn supply(&self, guard: &mut Guard)
-        requires map { guard.old.book ≡ self.now }
-        ensures { guard.new ≡ guard.old }
-    {
-        for form in FORMS {
-            if guard.room.spare.get(form) == 0 {
-                self.supply_one(guard, form);
-            }
-        }
-        if guard.room.spare.second == 0 {
-            self.supply_one(guard, NodeType::N4);
-        }
-    }
-
-    // A further node of a larger form, where the guard has one such node alone: a call may need two.
-    fn supply_further(&self, guard: &mut Guard)
-        requires map { guard.old.book ≡ self.now }
-        ensures { guard.new ≡ guard.old }
-    {
-        let spare = guard.room.spare;
-        if spare.smallest() != 0 {
-            return;
-        }
-        match (spare.n16 != 0, spare.n48 != 0, spare.n256 != 0) {
-            (true, false, false) => self.supply_one(guard, NodeType::N16),
-            (false, true, false) => self.supply_one(guard, NodeType::N48),
-            (false, false, true) => self.supply_one(guard, NodeType::N256),
-            _ => {}
-        }
-    }
-
-    // A node of a form, if a free list has one.
-    fn supply_one(&self, guard: &mut Guard, form: NodeType)
-        requires map { guard.old.book ≡ self.now }
-        ensures { guard.new ≡ guard.old }
-    {
-        for _ in 0..LOOKS {
-            if self.supply_once(guard, form) || !self.is_taken(form) {
-                return;
-            }
-            spin_loop();
-        }
-    }
-
-    // A node of a form out of the first free list of it that has one. Whether there was one.
-    fn supply_once(&self, guard: &mut Guard, form: NodeType) -> bool
-        requires map { guard.old.book ≡ self.now }
-        ensures { guard.new ≡ guard.old }
-    {
-        for stripe in 0..STRIPES {
-            if self.supply_at(guard, form, stripe) {
-                return true;
-            }
-        }
-        false
-    }
-
-    // A node of a form out of its free list in a stripe. Whether there was one.
-    fn supply_at(&self, guard: &mut Guard, form: NodeType, stripe: usize) -> bool
-        requires map { guard.old.book ≡ self.now }
-        ensures { guard.new ≡ guard.old }
-    {
-        let Some(slot) = self.free_list_at(form, stripe) else {
-            return false;
-        };
-        if let Some(name) = take_from(slot, &self.map, self.alloc, &mut guard.seat) {
-            let _ = guard.room.spare.keep(name);
-            return true;
         }
         false
     }

@@ -16,7 +16,7 @@ fn all_new(map: &Congee, alloc: Global, guard: &mut Guard, first: u64, count: u3
     let mut key = first;
     for _ in 0..count {
         let mut new = false;
-        if let Ok(before) = map.insert(alloc, guard, key, key ^ 1) {
+        if let Ok(before) = map.insert(&alloc, guard, key, key ^ 1) {
             new = before.is_none();
         }
         if !new {

@@ -37,7 +37,7 @@ pub(crate) fn insert(
     requires { guard.old.book ≡ map.now }
     ensures { guard.new.book ≡ map.now }
 {
-    map.insert(alloc, guard, key, value)
+    map.insert(&alloc, guard, key, value)
 }
 
 /// What a removal by this guard returns.
@@ -62,7 +62,7 @@ pub(crate) fn put(
     value: u64,
 ) -> Result<Option<u64>, Refusal> {
     let mut guard = map.pin();
-    map.insert(alloc, &mut guard, key, value)
+    map.insert(&alloc, &mut guard, key, value)
 }
 
 /// What a removal returns, by a caller of its own.
@@ -103,7 +103,7 @@ pub(crate) fn is_new(map: &Congee, alloc: Global, guard: &mut Guard, key: u64, v
     ensures { guard.new.book ≡ map.now }
 {
     for _ in 0..1_000_000u32 {
-        if let Ok(before) = map.insert(alloc, guard, key, value) {
+        if let Ok(before) = map.insert(&alloc, guard, key, value) {
             return before.is_none();
         }
     }

@@ -57,13 +57,13 @@ const KEYS: [u64; 4] = [0x0102, 0x0103, 0x0202, u64::MAX];
 fn raised(map: &Congee, alloc: Global, key: u64) -> Result<Option<u64>, Refusal> {
     let mut guard = map.pin();
     let mut next = |value: Option<u64>| -> u64 { value.unwrap_or(40).wrapping_add(2) };
-    compute_or_insert(map, alloc, &mut guard, key, &mut next)
+    compute_or_insert(map, &alloc, &mut guard, key, &mut next)
 }
 
 // What `get_or_insert` returns, by a caller of its own.
 fn kept(map: &Congee, alloc: Global, key: u64, value: u64) -> Result<Option<u64>, Refusal> {
     let mut guard = map.pin();
-    get_or_insert(map, alloc, &mut guard, key, value)
+    get_or_insert(map, &alloc, &mut guard, key, value)
 }
 
 fn raise(rt: &impl Abort, alloc: Global, map: &Congee, key: u64) {
@@ -105,7 +105,7 @@ fn a_present_key_keeps_its_value(rt: HostRuntime) -> Result<(), Fail> {
 // What `add` returns, by a caller of its own.
 fn added(map: &Congee, alloc: Global, key: u64, number: u64) -> Result<Option<u64>, Refusal> {
     let mut guard = map.pin();
-    add(map, alloc, &mut guard, key, number)
+    add(map, &alloc, &mut guard, key, number)
 }
 
 // Numbers that are added to one key in turn, and what each addition returns. The last but one goes past the greatest number.
@@ -142,7 +142,7 @@ fn counted_up(map: &Congee, alloc: Global, key: u64, times: u32) -> u32 {
         if done >= times {
             return done;
         }
-        if compute_or_insert(map, alloc, &mut guard, key, &mut up).is_ok() {
+        if compute_or_insert(map, &alloc, &mut guard, key, &mut up).is_ok() {
             done += 1;
         }
     }

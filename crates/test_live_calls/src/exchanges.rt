@@ -110,7 +110,7 @@ fn by_two<R: Threads + Sync>(rt: &R, map: &Congee, key: u64, times: u32) -> u32 
 fn by_four<R: Threads + Sync>(rt: &R, alloc: Global, key: u64, times: u32) -> Option<u64> {
     let map = Congee::new(alloc).ok()?;
     let mut guard = map.pin();
-    let before = map.insert(alloc, &mut guard, key, 0);
+    let before = map.insert(&alloc, &mut guard, key, 0);
     let shared = &map;
     let (a, b) = join(
         rt,

@@ -25,7 +25,7 @@ fn stored(map: &Congee, alloc: Global, guard: &mut Guard) -> u64
 {
     let mut i = 0u64;
     for _ in 0..100_000u32 {
-        if map.insert(alloc, guard, key_of(i), i) != Ok(None) {
+        if map.insert(&alloc, guard, key_of(i), i) != Ok(None) {
             return i;
         }
         i = i.wrapping_add(1);
@@ -55,7 +55,7 @@ fn replaced(map: &Congee, alloc: Global, guard: &mut Guard, count: u64) -> u64
     let mut right = 0u64;
     for i in 0..count {
         let gone = remove(map, guard, key_of(i)) == Ok(Some(i));
-        if map.insert(alloc, guard, key_of(i), i) == Ok(None) && gone {
+        if map.insert(&alloc, guard, key_of(i), i) == Ok(None) && gone {
             right = right.wrapping_add(1);
         }
     }
@@ -67,7 +67,7 @@ fn add_one(map: &Congee, alloc: Global, guard: &mut Guard, key: u64) -> Result<O
     requires { guard.old.book ≡ map.now }
     ensures { guard.new.book ≡ map.now }
 {
-    add(map, alloc, guard, key, 1)
+    add(map, &alloc, guard, key, 1)
 }
 
 // A map of one segment has no memory for a leaf, but by the guard that it was made with.

@@ -152,7 +152,7 @@ fn turned_over(map: &Congee, alloc: Global, key: u64, first: u64, times: u32) ->
     let mut value = first;
     let mut balance = 0u64;
     for _ in 0..times {
-        if let Ok(before) = map.insert(alloc, &mut guard, key, value) {
+        if let Ok(before) = map.insert(&alloc, &mut guard, key, value) {
             balance = balance
                 .wrapping_add(value)
                 .wrapping_sub(before.unwrap_or(0));

@@ -7,6 +7,7 @@ mod churn;
 mod computed;
 mod exchanges;
 mod limits;
+mod moved;
 mod neighbours;
 mod pages;
 mod refusals;

@@ -789,7 +789,7 @@ impl<K: Word, V: Word> OrdLiveGuard<K, V> {
     }
 
     /// Returns the pairs whose keys are within the bounds, keys ascending, from either end. The pairs are read in pages of
-    /// 4, then 16, and then 64. Each key has the value of a moment during the iteration, and a key that is present
+    /// 4, and later up to 256. Each key has the value of a moment during the iteration, and a key that is present
     /// throughout is returned.
     ///
     /// ```
@@ -810,7 +810,7 @@ impl<K: Word, V: Word> OrdLiveGuard<K, V> {
         Range::of(self.guard.range(bounds(of)))
     }
 
-    /// Returns all pairs, keys ascending, from either end. The pairs are read in pages of 4, then 16, and then 64. Each key
+    /// Returns all pairs, keys ascending, from either end. The pairs are read in pages of 4, and later up to 256. Each key
     /// has the value of a moment during the iteration, and a key that is present throughout is returned.
     ///
     /// ```
@@ -830,7 +830,7 @@ impl<K: Word, V: Word> OrdLiveGuard<K, V> {
         self.range(..)
     }
 
-    /// Returns all keys, ascending, from either end. The keys are read in pages of 4, then 16, and then 64. Each key is
+    /// Returns all keys, ascending, from either end. The keys are read in pages of 4, and later up to 256. Each key is
     /// read at a moment of its own. A key that is present throughout is returned.
     ///
     /// ```
@@ -847,7 +847,7 @@ impl<K: Word, V: Word> OrdLiveGuard<K, V> {
         self.iter().map(|it| it.0)
     }
 
-    /// Returns all values, by ascending keys, from either end. The values are read in pages of 4, then 16, and then 64.
+    /// Returns all values, by ascending keys, from either end. The values are read in pages of 4, and later up to 256.
     /// Each key is read at a moment of its own. The value of a key that is present throughout is returned.
     ///
     /// ```

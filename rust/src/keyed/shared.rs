@@ -789,7 +789,7 @@ impl<K: Word, V: Word> OrdGuard<K, V> {
     }
 
     /// Returns the pairs whose keys are within the bounds, keys ascending, from either end. The pairs are read in pages of
-    /// 4, then 16, and then 64. The pairs of a page are of one moment, and other calls come in between two pages. A key
+    /// 4, and later up to 256. The pairs of a page are of one moment, and other calls come in between two pages. A key
     /// that is present throughout is returned.
     ///
     /// ```
@@ -807,7 +807,7 @@ impl<K: Word, V: Word> OrdGuard<K, V> {
         Range::of(self.guard.range(bounds(of)))
     }
 
-    /// Returns all pairs, keys ascending, from either end. The pairs are read in pages of 4, then 16, and then 64. The
+    /// Returns all pairs, keys ascending, from either end. The pairs are read in pages of 4, and later up to 256. The
     /// pairs of a page are of one moment, and other calls come in between two pages. A key that is present throughout is
     /// returned.
     ///
@@ -826,7 +826,7 @@ impl<K: Word, V: Word> OrdGuard<K, V> {
         self.range(..)
     }
 
-    /// Returns all keys, ascending, from either end. The keys are read in pages of 4, then 16, and then 64. The pairs
+    /// Returns all keys, ascending, from either end. The keys are read in pages of 4, and later up to 256. The pairs
     /// of a page are of one moment, and other calls come in between two pages. A key that is present throughout is
     /// returned.
     ///
@@ -844,7 +844,7 @@ impl<K: Word, V: Word> OrdGuard<K, V> {
         self.iter().map(|it| it.0)
     }
 
-    /// Returns all values, by ascending keys, from either end. The values are read in pages of 4, then 16, and then 64.
+    /// Returns all values, by ascending keys, from either end. The values are read in pages of 4, and later up to 256.
     /// The pairs of a page are of one moment, and other calls come in between two pages. The value of a key that is
     /// present throughout is returned.
     ///

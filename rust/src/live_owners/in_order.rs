@@ -339,8 +339,9 @@ impl<P: Pointer> LiveOwnerGuard<P> {
 
     /// Calls the closure with each key within the bounds, keys ascending, and the key's object. Each key is read at a
     /// moment of its own, and each key that is present throughout the call is among them. Other keys may be among them,
-    /// too. The object is lent while the closure runs, and nothing is locked. The keys are read in pages of 4, then 16,
-    /// and then 64. While other threads are in the way, the call yields and tries again. Takes no memory.
+    /// too. The object is lent while the closure runs, and nothing is locked. The keys are read in pages of 4, and later
+    /// up to 256. While other threads are in the way, the call yields and tries again. Takes 4 KB of memory for pages of
+    /// 256, and reads smaller ones without it.
     ///
     /// ```
     /// # fn main() -> Result<(), Box<dyn std::error::Error>> {
@@ -366,8 +367,9 @@ impl<P: Pointer> LiveOwnerGuard<P> {
 
     /// Calls the closure with each key within the bounds, keys descending, and the key's object. Each key is read at a
     /// moment of its own, and each key that is present throughout the call is among them. Other keys may be among them,
-    /// too. The object is lent while the closure runs, and nothing is locked. The keys are read in pages of 4, then 16,
-    /// and then 64. While other threads are in the way, the call yields and tries again. Takes no memory.
+    /// too. The object is lent while the closure runs, and nothing is locked. The keys are read in pages of 4, and later
+    /// up to 256. While other threads are in the way, the call yields and tries again. Takes 4 KB of memory for pages of
+    /// 256, and reads smaller ones without it.
     ///
     /// ```
     /// # fn main() -> Result<(), Box<dyn std::error::Error>> {
@@ -395,7 +397,7 @@ impl<P: Pointer> LiveOwnerGuard<P> {
         }
     }
 
-    /// Returns all keys, ascending, from either end. The keys are read in pages of 4, then 16, and then 64. A key that is
+    /// Returns all keys, ascending, from either end. The keys are read in pages of 4, and later up to 256. A key that is
     /// present throughout the iteration is returned. While other threads are in the way, the iterator yields and tries
     /// again.
     ///
@@ -470,7 +472,7 @@ impl<P: Pointer> LiveOwnerGuard<P> {
 impl<T: 'static> LiveOwnerGuard<Arc<T>> {
     /// Returns an iterator over the keys within the bounds and a further `Arc` of each object, keys ascending, from either
     /// end. Each key is read at a moment of its own, and each key that is present throughout the iteration is returned.
-    /// The keys are read in pages of 4, then 16, and then 64. While other threads are in the way, the iterator yields and
+    /// The keys are read in pages of 4, and later up to 256. While other threads are in the way, the iterator yields and
     /// tries again.
     ///
     /// ```

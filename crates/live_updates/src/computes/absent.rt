@@ -8,12 +8,12 @@ ghost use Rattle.live_updates.specs.inner.Updates.{Update, IsUpdate};
 ghost use Rattle.live_updates.specs.inner.Ends.{Tries, Enters};
 
 use crate::leaf::{Missed, Updates, update_here};
-use live_growth::insert::{enlarge, extend, make_room, part};
+use live_growth::insert::{enlarge, extend, part};
 use live_growth::link::Room;
 use live_growth::map::{Refusal, TRIES};
+use live_growth::refill::Refills;
 use live_reads::descend::{End, Position, descend};
 use live_reads::path::{Nodes, Seat};
-use std::alloc::Global;
 
 /// How a try ends: the key has the value, it has another one already, it is to be tried again, or a node is lacking.
 #[derive(Clone, Copy, Debug, PartialEq, Eq)]
@@ -92,16 +92,17 @@ fn enter_once<U: Updates>(
     enter_at::<U>(nodes, position, key, value, room, seat)
 }
 
-/// Gives an absent key a value, as by `enter_once`. Where a node is lacking, there is more room instead. `Lacks` where there is no
-/// memory for that, nor a larger node.
-fn try_enter<U: Updates>(
+/// Gives an absent key a value, as by `enter_once`. Where a node is lacking, more are asked for instead. `Lacks` where there are
+/// none, nor a larger one.
+fn try_enter<U: Updates, R: Refills>(
     nodes: &Nodes,
-    alloc: Global,
+    from: &R,
     key: u64,
     value: u64,
     room: &mut Room,
     seat: &mut Seat,
 ) -> Tried
+    requires serves { R.serves from.now nodes.now }
     requires book { seat.old.book ≡ nodes.now }
     requires asks { (U.update.key ≡ key) × (U.update.caller ≡ seat.old.id) }
     requires values { (U.update.old ≡ None) × (U.update.new ≡ Some value) }
@@ -112,21 +113,22 @@ fn try_enter<U: Updates>(
         × Tries U.update result seat.old.view seat.new.view }
 {
     let tried = enter_once::<U>(nodes, key, value, room, seat);
-    if tried == Tried::Lacks && make_room(nodes, alloc, room, seat) {
+    if tried == Tried::Lacks && from.refill(nodes, room, seat) {
         return Tried::Again;
     }
     tried
 }
 
 /// Gives an absent key a value. `false` where it has one already.
-pub fn enter<U: Updates>(
+pub fn enter<U: Updates, R: Refills>(
     nodes: &Nodes,
-    alloc: Global,
+    from: &R,
     key: u64,
     value: u64,
     room: &mut Room,
     seat: &mut Seat,
 ) -> Result<bool, Refusal>
+    requires serves { R.serves from.now nodes.now }
     requires book { seat.old.book ≡ nodes.now }
     requires asks { (U.update.key ≡ key) × (U.update.caller ≡ seat.old.id) }
     requires values { (U.update.old ≡ None) × (U.update.new ≡ Some value) }
@@ -137,7 +139,7 @@ pub fn enter<U: Updates>(
         × Enters U.update result seat.old.view seat.new.view }
 {
     for _ in 0..TRIES {
-        match try_enter::<U>(nodes, alloc, key, value, room, seat) {
+        match try_enter::<U, R>(nodes, from, key, value, room, seat) {
             Tried::Entered => return Ok(true),
             Tried::Present => return Ok(false),
             Tried::Lacks => return Err(Refusal::OutOfMemory),

@@ -14,8 +14,8 @@ use crate::leaf::{exchange_here, update_here};
 use crate::lookup::{Site, seek};
 use live_growth::link::Room;
 use live_growth::map::{Busy, Congee, Guard, Refusal, TRIES};
+use live_growth::refill::Refills;
 use live_reads::path::{Nodes, Seat};
-use std::alloc::Global;
 use std::marker::Brand;
 
 /// Stores what a closure returns for a present key's value, once. What it was called with and what it returned, or `Some(None)`
@@ -53,15 +53,16 @@ fn present_once<F: FnMut(u64) -> Option<u64>>(
 
 /// Stores what a closure returns for a key's value, once. The value that it was called with. `None` where a writer came in
 /// between.
-fn always_once<F: FnMut(Option<u64>) -> u64>(
+fn always_once<F: FnMut(Option<u64>) -> u64, R: Refills>(
     nodes: &Nodes,
-    alloc: Global,
+    from: &R,
     key: u64,
     room: &mut Room,
     seat: &mut Seat,
     f: &mut F,
 ) -> Result<Option<Option<u64>>, Refusal>
     requires book { seat.old.book ≡ nodes.now }
+    requires serves { R.serves from.now nodes.now }
     requires ready { IsReady seat.old.view room.old }
     requires callable { F.IsAlwaysCallable f.old }
     ensures callable { F.IsAlwaysCallable f.new }
@@ -81,7 +82,7 @@ fn always_once<F: FnMut(Option<u64>) -> u64>(
         }
         Some(Site::Absent) => {
             let new = f(None);
-            if !enter::<Brand>(nodes, alloc, key, new, room, seat)? {
+            if !enter::<Brand, R>(nodes, from, key, new, room, seat)? {
                 return Ok(None);
             }
             Ok(Some(None))
@@ -91,15 +92,16 @@ fn always_once<F: FnMut(Option<u64>) -> u64>(
 }
 
 /// Gives an absent key a value, once. The value that is there already. `None` where a writer came in between.
-fn keep_once(
+fn keep_once<R: Refills>(
     nodes: &Nodes,
-    alloc: Global,
+    from: &R,
     key: u64,
     value: u64,
     room: &mut Room,
     seat: &mut Seat,
 ) -> Result<Option<Option<u64>>, Refusal>
     requires book { seat.old.book ≡ nodes.now }
+    requires serves { R.serves from.now nodes.now }
     requires ready { IsReady seat.old.view room.old }
     ensures told { (seat.new.book ≡ seat.old.book) × (seat.new.id ≡ seat.old.id)
         × IsReady seat.new.view room.new
@@ -109,7 +111,7 @@ fn keep_once(
     match seek::<Brand>(nodes, key, seat) {
         Some(Site::At(_leaf, found)) => Ok(Some(Some(found))),
         Some(Site::Absent) => {
-            if !enter::<Brand>(nodes, alloc, key, value, room, seat)? {
+            if !enter::<Brand, R>(nodes, from, key, value, room, seat)? {
                 return Ok(None);
             }
             Ok(Some(None))
@@ -119,15 +121,16 @@ fn keep_once(
 }
 
 /// Adds a number to a key's value, once. The value before. `None` where a writer came in between.
-fn add_once(
+fn add_once<R: Refills>(
     nodes: &Nodes,
-    alloc: Global,
+    from: &R,
     key: u64,
     number: u64,
     room: &mut Room,
     seat: &mut Seat,
 ) -> Result<Option<Option<u64>>, Refusal>
     requires book { seat.old.book ≡ nodes.now }
+    requires serves { R.serves from.now nodes.now }
     requires ready { IsReady seat.old.view room.old }
     ensures told { (seat.new.book ≡ seat.old.book) × (seat.new.id ≡ seat.old.id)
         × IsReady seat.new.view room.new
@@ -143,7 +146,7 @@ fn add_once(
             Ok(Some(Some(value)))
         }
         Some(Site::Absent) => {
-            if !enter::<Brand>(nodes, alloc, key, number, room, seat)? {
+            if !enter::<Brand, R>(nodes, from, key, number, room, seat)? {
                 return Ok(None);
             }
             Ok(Some(None))
@@ -181,14 +184,15 @@ pub fn compute_if_present<F: FnMut(u64) -> Option<u64>>(
 
 /// Calls the closure with the key's value, if it is present, and stores the answer. Returns the value before. The closure may
 /// be called again, and the last call counts. It may have been called before a refusal.
-pub fn compute_or_insert<F: FnMut(Option<u64>) -> u64>(
+pub fn compute_or_insert<F: FnMut(Option<u64>) -> u64, R: Refills>(
     map: &Congee,
-    alloc: Global,
+    from: &R,
     guard: &mut Guard,
     key: u64,
     f: &mut F,
 ) -> Result<Option<u64>, Refusal>
     requires map { guard.old.book ≡ map.now }
+    requires serves { R.serves from.now map.now }
     requires callable { F.IsAlwaysCallable f.old }
     ensures callable { F.IsAlwaysCallable f.new }
     ensures reached { Reaches F.step f.old f.new }
@@ -198,7 +202,7 @@ pub fn compute_or_insert<F: FnMut(Option<u64>) -> u64>(
     ensures refused { OnErr result (guard.new ≡ guard.old) }
 {
     for _ in 0..TRIES {
-        let done = always_once(&map.nodes, alloc, key, &mut guard.room, &mut guard.seat, f)?;
+        let done = always_once(&map.nodes, from, key, &mut guard.room, &mut guard.seat, f)?;
         if let Some(before) = done {
             return Ok(before);
         }
@@ -207,14 +211,15 @@ pub fn compute_or_insert<F: FnMut(Option<u64>) -> u64>(
 }
 
 /// Gives the key the value if it is absent. Returns the value that was present. No lock is taken for a present key.
-pub fn get_or_insert(
+pub fn get_or_insert<R: Refills>(
     map: &Congee,
-    alloc: Global,
+    from: &R,
     guard: &mut Guard,
     key: u64,
     value: u64,
 ) -> Result<Option<u64>, Refusal>
-    requires { guard.old.book ≡ map.now }
+    requires map { guard.old.book ≡ map.now }
+    requires serves { R.serves from.now map.now }
     ensures made { IfOk result (λ found. MadeCall guard.old
         (inserted_with guard.old.caller key found (unwrap_or found value)) guard.new) }
     ensures refused { OnErr result (guard.new ≡ guard.old) }
@@ -222,7 +227,7 @@ pub fn get_or_insert(
     for _ in 0..TRIES {
         let done = keep_once(
             &map.nodes,
-            alloc,
+            from,
             key,
             value,
             &mut guard.room,
@@ -236,14 +241,15 @@ pub fn get_or_insert(
 }
 
 /// Adds a number to the key's value, modulo 2 to the 64. An absent key gets the number itself. Returns the value before.
-pub fn add(
+pub fn add<R: Refills>(
     map: &Congee,
-    alloc: Global,
+    from: &R,
     guard: &mut Guard,
     key: u64,
     number: u64,
 ) -> Result<Option<u64>, Refusal>
-    requires { guard.old.book ≡ map.now }
+    requires map { guard.old.book ≡ map.now }
+    requires serves { R.serves from.now map.now }
     ensures made { IfOk result (λ before. MadeCall guard.old
         (inserted_with guard.old.caller key before (sum_with before number)) guard.new) }
     ensures refused { OnErr result (guard.new ≡ guard.old) }
@@ -251,7 +257,7 @@ pub fn add(
     for _ in 0..TRIES {
         let done = add_once(
             &map.nodes,
-            alloc,
+            from,
             key,
             number,
             &mut guard.room,

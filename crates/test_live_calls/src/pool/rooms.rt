@@ -3,6 +3,7 @@
 ghost use Rattle.std.specs.Prelude.{◌≡◌};
 
 use crate::calls::all_hold;
+use live_growth::free_nodes::FreeNodes;
 use live_growth::link::Room;
 use live_growth::map::Guard;
 use live_pool::pool::Pool;
@@ -320,5 +321,22 @@ fn move_spread_keys(rt: &impl Abort, alloc: Global, map: &Pool, guard: &mut Guar
 fn a_window_of_spread_keys_stays_in_its_room(rt: HostRuntime) -> Result<(), Fail> {
     let map = Pool::new(rt.alloc())?;
     move_spread_keys(&rt, rt.alloc(), &map, &mut map.pin());
+    Ok(())
+}
+
+// A new guard replaces a value: whether it has no room and no node then, as before.
+fn replaces_alone(map: &Pool, alloc: Global, key: u64) -> bool {
+    let mut guard = map.pin();
+    let before = map.insert(alloc, &mut guard, key, 8);
+    before == Ok(Some(key ^ 3)) && guard.room.left == 0 && guard.room.spare == FreeNodes::none()
+}
+
+#[test]
+fn an_overwrite_takes_no_free_node(rt: HostRuntime) -> Result<(), Fail> {
+    let map = Pool::new(rt.alloc())?;
+    let mut guard = map.pin();
+    assert!(rt; come_and_go(&map, rt.alloc(), &mut guard) == LEAVES);
+    assert!(rt; has_stored(&map, rt.alloc(), &mut guard, 5));
+    assert!(rt; replaces_alone(&map, rt.alloc(), 5));
     Ok(())
 }

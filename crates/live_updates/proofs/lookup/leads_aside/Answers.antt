@@ -1,4 +1,4 @@
-use Rattle.std.proofs.Common.{rules, arith, refl, sym, get_or, ◌/◌, ◌∙◌}
+use Rattle.std.proofs.Common.{arith, refl, sym, get_or, ◌/◌, ◌∙◌}
 use Rattle.live_law.specs.Levels.{place_at}
 use Rattle.live_reads.proofs.Finds.{keeps_then}
 use Rattle.live_reads.proofs.Views.{first_word}

@@ -5,7 +5,7 @@ use Rattle.live_growth.proofs.Ready.{made_call}
 use Rattle.live_growth.proofs.map.Congee.insert.Goals as goal
 
 pub returns-in-Ok-clause-made : goal.returns-in-Ok-clause-made
-returns-in-Ok-clause-made c =
+returns-in-Ok-clause-made g c =
     let i = c.loop.invariant in
     let v = c.loop.guard-inside.seat.view in
     let w = c.try_insert.new.seat.view in

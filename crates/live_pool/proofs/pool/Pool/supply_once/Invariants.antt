@@ -1,5 +1,10 @@
 use Rattle.std.proofs.Common.{◌≡◌}
+use Rattle.live_growth.specs.Calls.{IsReady}
 use Rattle.live_pool.proofs.pool.Pool.supply_once.Given as goal
 
 abbrev pub invariant-loop-stripe : goal.invariant-loop-stripe
-invariant-loop-stripe l = l.guard ≡ l.fn.guard
+invariant-loop-stripe l = record {
+  seat : (l.seat.book ≡ l.fn.seat.book) × (l.seat.id ≡ l.fn.seat.id);
+  ready : IsReady l.seat.view l.room;
+  seen : l.seat.view.client.seen ≡ l.fn.seat.view.client.seen;
+}

@@ -8,11 +8,12 @@ use Rattle.live_updates.proofs.Made.{no_more, at_some, missed_same, updated_by, 
 use Rattle.live_updates.specs.ClosureEntries.{inserted_with, sum_with}
 use Rattle.live_updates.specs.inner.Ends.{nowhere}
 use Rattle.live_updates.proofs.Called.{always_lookup, always_update}
+use Rattle.live_updates.proofs.computes.present.add_once.Given.{Over}
 use Rattle.live_updates.proofs.computes.present.add_once.Goals as goal
 use Rattle.live_updates.proofs.computes.present.add_once.Goals.{After-seek, After-update_here}
 
 -- THE KEY was looked for
-module _ (c : After-seek) where
+module _ (g : Over) (c : After-seek g) where
   abbrev looked : Lookup
   looked = lookup_of c.args.seat.now.id c.args.key nowhere
 
@@ -20,7 +21,7 @@ module _ (c : After-seek) where
   ready = ready_kept c.args.seat.now.view c.seek.new.seat.view c.args.room.now c.requires.ready c.seek.ensures.told.2
 
 -- and found
-module _ (c : After-update_here) where
+module _ (g : Over) (c : After-update_here g) where
   abbrev new : ℕ
   new = sum_with (Some c.in-Some-At.value) c.args.number
 
@@ -30,44 +31,44 @@ module _ (c : After-update_here) where
   same : c.seek.new.seat.view.client.seen ≡ c.args.seat.now.view.client.seen
   same =
       let found : c.seek.result ≡ Some (sites.At c.in-Some-At.leaf c.in-Some-At.value) = search rules in
-      at_some (looked (goal.at.After-update_here c).After-seek) c.seek.result c.in-Some-At.leaf c.in-Some-At.value c.args.seat.now.view c.seek.new.seat.view found c.seek.ensures.told.3
+      at_some (looked g (goal.at.After-update_here g c).After-seek) c.seek.result c.in-Some-At.leaf c.in-Some-At.value c.args.seat.now.view c.seek.new.seat.view found c.seek.ensures.told.3
 
   ready_then : IsReady c.update_here.new.seat.view c.args.room.now
-  ready_then = ready_rest c.seek.new.seat.view c.update_here.new.seat.view c.args.room.now (ready (goal.at.After-update_here c).After-seek) c.update_here.ensures.told.2
+  ready_then = ready_rest c.seek.new.seat.view c.update_here.new.seat.view c.args.room.now (ready g (goal.at.After-update_here g c).After-seek) c.update_here.ensures.told.2
 
 pub seek-requires-clause-legal : goal.seek-requires-clause-legal
-seek-requires-clause-legal c = always_lookup c.args.seat.now.id c.args.key
+seek-requires-clause-legal g c = always_lookup c.args.seat.now.id c.args.key
 
 pub update_here-requires-clause-legal : goal.update_here-requires-clause-legal
-update_here-requires-clause-legal c = always_update c.seek.new.seat.id c.args.key (Some c.in-Some-At.value) (sum_with (Some c.in-Some-At.value) c.args.number)
+update_here-requires-clause-legal g c = always_update c.seek.new.seat.id c.args.key (Some c.in-Some-At.value) (sum_with (Some c.in-Some-At.value) c.args.number)
 
 pub returns-then-is_some : goal.returns-then-is_some
-returns-then-is_some c =
-    let a = (goal.at.returns-then-is_some c).After-update_here in
+returns-then-is_some g c =
+    let a = (goal.at.returns-then-is_some g c).After-update_here in
     let t = c.seek.ensures.told in
     let e = c.update_here.ensures.told in
-    let missed = missed_same (update a) c.update_here.result c.seek.new.seat.view c.update_here.new.seat.view (search rules) e.3 in
-    record { told = (e.0 ∙ t.0, e.1 ∙ t.1, ready_then a, missed ∙ same a) }
+    let missed = missed_same (update g a) c.update_here.result c.seek.new.seat.view c.update_here.new.seat.view (search rules) e.3 in
+    record { told = (e.0 ∙ t.0, e.1 ∙ t.1, ready_then g a, missed ∙ same g a) }
 
 pub returns-else-is_some : goal.returns-else-is_some
-returns-else-is_some c =
-    let a = (goal.at.returns-else-is_some c).After-update_here in
+returns-else-is_some g c =
+    let a = (goal.at.returns-else-is_some g c).After-update_here in
     let t = c.seek.ensures.told in
     let w = c.seek.new.seat.view in
     let u = c.update_here.new.seat.view in
     let e = c.update_here.ensures.told in
-    let answers = updated_by (update a) c.update_here.result w u (search rules) e.3 in
-    let by = answers_from c.seek.new.seat.id c.args.seat.now.id (λ (z : ℕ). inserted_with z c.args.key (Some c.in-Some-At.value) (new a)) w.client.seen c.args.seat.now.view.client.seen u.client.seen t.1 (same a) answers in
-    record { told = (e.0 ∙ t.0, e.1 ∙ t.1, ready_then a, (new a, by, refl)) }
+    let answers = updated_by (update g a) c.update_here.result w u (search rules) e.3 in
+    let by = answers_from c.seek.new.seat.id c.args.seat.now.id (λ (z : ℕ). inserted_with z c.args.key (Some c.in-Some-At.value) (new g a)) w.client.seen c.args.seat.now.view.client.seen u.client.seen t.1 (same g a) answers in
+    record { told = (e.0 ∙ t.0, e.1 ∙ t.1, ready_then g a, (new g a, by, refl)) }
 
 pub enter-requires-clause-legal : goal.enter-requires-clause-legal
-enter-requires-clause-legal c = always_update c.seek.new.seat.id c.args.key None c.args.number
+enter-requires-clause-legal g c = always_update c.seek.new.seat.id c.args.key None c.args.number
 
 pub enter-requires-clause-ready : goal.enter-requires-clause-ready
-enter-requires-clause-ready c = ready (goal.at.enter-requires-clause-ready c).After-seek
+enter-requires-clause-ready g c = ready g (goal.at.enter-requires-clause-ready g c).After-seek
 
 pub returns-in-None : goal.returns-in-None
-returns-in-None c =
-    let a = (goal.at.returns-in-None c).After-seek in
+returns-in-None g c =
+    let a = (goal.at.returns-in-None g c).After-seek in
     let t = c.seek.ensures.told in
-    record { told = (t.0, t.1, ready a, no_more (looked a) c.seek.result c.args.seat.now.view c.seek.new.seat.view (search rules) t.3) }
+    record { told = (t.0, t.1, ready g a, no_more (looked g a) c.seek.result c.args.seat.now.view c.seek.new.seat.view (search rules) t.3) }

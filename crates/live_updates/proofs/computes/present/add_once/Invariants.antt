@@ -6,10 +6,10 @@ use Rattle.live_updates.specs.inner.Ends.{nowhere, stored}
 use Rattle.live_updates.proofs.computes.present.add_once.Given as goal
 
 abbrev pub ghosts-seek : goal.ghosts-seek
-ghosts-seek a = record { lookup = lookup_of a.seat.now.id a.key nowhere }
+ghosts-seek g a = record { lookup = lookup_of a.seat.now.id a.key nowhere }
 
 abbrev pub ghosts-update_here : goal.ghosts-update_here
-ghosts-update_here a = record { update = update_of a.seat.now.id a.key a.old a.new (inserted_with a.seat.now.id a.key a.old (stored a.new)) }
+ghosts-update_here g a = record { update = update_of a.seat.now.id a.key a.old a.new (inserted_with a.seat.now.id a.key a.old (stored a.new)) }
 
 abbrev pub ghosts-enter : goal.ghosts-enter
-ghosts-enter a = record { update = update_of a.seat.now.id a.key None (Some a.value) (inserted_with a.seat.now.id a.key None a.value) }
+ghosts-enter g a = record { update = update_of a.seat.now.id a.key None (Some a.value) (inserted_with a.seat.now.id a.key None a.value) }

@@ -6,7 +6,7 @@ use Rattle.live_updates.proofs.Tries.{stores_done}
 use Rattle.live_updates.proofs.computes.present.get_or_insert.Goals as goal
 
 pub returns-in-Some-clause-made : goal.returns-in-Some-clause-made
-returns-in-Some-clause-made c =
+returns-in-Some-clause-made g c =
     let i = c.loop.invariant in
     let v = c.loop.guard-inside.seat.view in
     let w = c.keep_once.new.seat.view in

@@ -6,7 +6,7 @@ use Rattle.live_updates.specs.inner.Ends.{kept}
 use Rattle.live_updates.proofs.computes.present.keep_once.Given as goal
 
 abbrev pub ghosts-seek : goal.ghosts-seek
-ghosts-seek a = record { lookup = lookup_of a.seat.now.id a.key (kept a.seat.now.id a.key) }
+ghosts-seek g a = record { lookup = lookup_of a.seat.now.id a.key (kept a.seat.now.id a.key) }
 
 abbrev pub ghosts-enter : goal.ghosts-enter
-ghosts-enter a = record { update = update_of a.seat.now.id a.key None (Some a.value) (inserted_with a.seat.now.id a.key None a.value) }
+ghosts-enter g a = record { update = update_of a.seat.now.id a.key None (Some a.value) (inserted_with a.seat.now.id a.key None a.value) }
