@@ -1,5 +1,5 @@
 -- A seat stays ready for the next call.
-use Rattle.std.proofs.Common.{◌≡◌, ℕ, nat_eq, List, [], ◌∷◌, ◌++◌, refl, sym, ap, ◌∙◌, subst, inl, arith, Bool, false, Option, Some, None, IfSome}
+use Rattle.std.proofs.Common.{◌≡◌, ℕ, nat_eq, List, [], ◌∷◌, ◌++◌, refl, sym, ap, ◌∙◌, subst, inl, arith, Bool, false, Option, Some, None, IfSome, ◌≤◌}
 use Rattle.share_rule.specs.History.{Entry, entries_of, IsLegalHistory}
 use Rattle.share_rule.proofs.Keeps.{entries-append}
 use Rattle.word_book.specs.Book.{Book}
@@ -120,13 +120,13 @@ pub some_by : {A : Type 0} (o : Option A) (x : A) → o ≡ Some x → (P : A �
 some_by {A} o x e P h = subst (λ (z : Option A). IfSome z P) e h
 
 -- and is given words
-pub ready_given : (v w : Seen) (m : Room) (start count : ℕ) → IsReady v m → w ≡ given v start count → IsReady w (record m { start = start; left = count })
-ready_given v w m start count r e =
+pub ready_given : (v w : Seen) (m : Room) (start left count : ℕ) → left ≤ count → IsReady v m → w ≡ given v start count → IsReady w (record m { start = start; left = left })
+ready_given v w m start left count few r e =
     let places = λ (p : Place) (i : IsIn p v.places). subst (λ (ps : List Place). IsIn p ps) (sym (ap (λ (z : Seen). z.places) e)) i in record {
       root_word = places (place 0 1 1) r.root_word;
       own = ap (λ (z : Seen). z.client.own) e ∙ r.own;
       holds = ap (λ (z : Seen). z.holds) e ∙ r.holds;
-      words = record { count = count; enough = omega arith; is = ap (λ (z : Seen). z.room) e };
+      words = record { count = count; enough = few; is = ap (λ (z : Seen). z.room) e };
       spare = free_nodes_kept v w m.spare places (λ a i. subst (λ (l : List Spot). IsIn a l) (sym (ap (λ (z : Seen). z.client.met) e)) i) r.spare;
     }
 

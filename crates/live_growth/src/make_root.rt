@@ -78,9 +78,7 @@ fn name_root<A: Asks>(
     if spare >= 1 << 56 {
         return false;
     }
-    let Some(words) = nodes.span(1, 2) else {
-        return false;
-    };
+    let words = nodes.root_words();
     let Some(others) = words_at(nodes, spare) else {
         return false;
     };

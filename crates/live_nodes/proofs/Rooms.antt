@@ -1,5 +1,5 @@
 -- Each step on a seat's own room keeps the rule: new words for it, a number written there, a new node made of it.
-use Rattle.std.proofs.Common.{◌≡◌, ◌≢◌, ℕ, suc, zero, ◌+◌, ◌-◌, ◌<◌, ◌≤◌, List, [], ◌∷◌, ◌++◌, map, length, set, take, drop, sym, refl, ap, ◌∙◌, subst, inl, ⊎_elim, arith, length-set, length-append, None}
+use Rattle.std.proofs.Common.{◌≡◌, ◌≢◌, ℕ, suc, zero, ◌+◌, ◌*◌, ◌-◌, ◌<◌, ◌≤◌, List, [], ◌∷◌, ◌++◌, map, length, set, take, drop, sym, refl, ap, ◌∙◌, subst, inl, ⊎_elim, arith, length-set, length-append, None}
 use mathlib.Core.Logic.{dite}
 use mathlib.Core.Option.{some, some-injective, some-ne-none}
 use native.Mathlib.Decide.{ℕ_discrete, dec_le}
@@ -8,7 +8,7 @@ use Rattle.atomic_table.proofs.Lists.{at_snoc, set_here, set_else, at_longer}
 use Rattle.word_book.specs.Book.{State, Stores, Exchanges}
 use Rattle.live_nodes.specs.Nodes.{Content, at, Node, node, node_at, Owner, counts, in_node, in_room, WordFits, IsNode}
 use Rattle.live_nodes.specs.Seats.{place, Room, room_at, no_room, SeatView, seat_view}
-use Rattle.word_segments.specs.Segments.{size, before}
+use Rattle.word_segments.specs.Segments.{keys}
 use Rattle.live_nodes.specs.Rule.{first_key, PlaceFits, Knows, RoomFits, client, IsLive}
 use Rattle.live_nodes.specs.Acts as acts
 use Rattle.live_nodes.specs.Plays as plays
@@ -178,7 +178,7 @@ module _ {V : Type 0} (root : ℕ) (P : List Node → List V → Type 0) where
   -- GROW
   pub may_grow : (id : ℕ) (v : View) (old : ℕ) → Exchanges R (plays.Grows root) id v 0 old (old + 1)
   may_grow id v old s n r seat there = (
-    (λ is. let m : ℕ = size old in let l : ℕ = length s.words in let ws : List ℕ = set s.words 0 (old + 1) in let more : List ℕ = replicate m 0 in let all_ : List ℕ = ws ++ more in let w : View = given v l m in
+    (λ is. let m : ℕ = keys in let l : ℕ = length s.words in let ws : List ℕ = set s.words 0 (old + 1) in let more : List ℕ = replicate m 0 in let all_ : List ℕ = ws ++ more in let w : View = given v l m in
         let is_long : l ≡ first_key root old = r.long old (there ∙ ap some is) in let same_length : length ws ≡ l = length-set s.words 0 (old + 1) in let all_long : length all_ ≡ l + m = length-append ws more ∙ omega (arith, same_length, zeros_length m) in
         let some_words : 0 < l = below s.words 0 n there in let owner : ℕ → Owner = owned r.owner l (l + m) (in_room id) in
         let else : (y : ℕ) → y < l → owner y ≡ r.owner y = λ y h. outside r.owner l (l + m) (in_room id) y (λ from _. omega (arith, from, h)) in
@@ -191,7 +191,7 @@ module _ {V : Type 0} (root : ℕ) (P : List Node → List V → Type 0) where
             owner = owner;
             counted = counted;
             long = λ c e. let same : old + 1 ≡ c = one_only all_ 0 (old + 1) c (at_longer ws more 0 (old + 1) (set_here s.words 0 (old + 1) some_words)) e in
-                let next : suc old ≡ c = omega (arith, same) in subst (λ (z : ℕ). length all_ ≡ first_key root z) next (let e' : length all_ ≡ root + 2 + (before old + size old) = omega (arith, all_long, is_long) in e');
+                let next : suc old ≡ c = omega (arith, same) in subst (λ (z : ℕ). length all_ ≡ first_key root z) next (let e' : length all_ ≡ root + 2 + keys * suc old = omega (arith, all_long, is_long) in e');
             rooted = r.rooted;
             each_node = λ k h. more_words owner k (node r.nodes k) (r.drafts k) ws more (other_word owner k (node r.nodes k) (r.drafts k) s.words 0 (old + 1) (λ e. no_count k (sym counted ∙ e))
                 (other_owner r.owner k (node r.nodes k) (r.drafts k) s.words owner (λ y low e. else y low ∙ e) (r.each_node k h)));
@@ -222,7 +222,7 @@ module _ {V : Type 0} (root : ℕ) (P : List Node → List V → Type 0) where
         drafts = λ _. replicate root 0;
         owner = first_owner;
         counted = refl;
-        long = λ n e. let is : 0 ≡ n = one_only ws 0 0 n (zero_at (root + 2) 0 (omega arith)) e in subst (λ (z : ℕ). length ws ≡ first_key root z) is (let e' : length ws ≡ root + 2 + 0 = omega (arith, long) in e');
+        long = λ n e. let is : 0 ≡ n = one_only ws 0 0 n (zero_at (root + 2) 0 (omega arith)) e in subst (λ (z : ℕ). length ws ≡ first_key root z) is (let e' : length ws ≡ root + 2 + keys * 0 = omega (arith, long) in e');
         rooted = rooted;
         each_node = λ k h. let first : 0 ≡ k = omega (arith, h) in subst (λ (z : ℕ). IsNode first_owner z (node (b ∷ []) z) (replicate root 0) ws) first record {
           drafted = refl;

@@ -5,7 +5,7 @@ use lib.ListN.{get_elem?}
 use Rattle.word_book.specs.Book.{reads, writes, compares, Tells}
 use Rattle.live_nodes.specs.Nodes.{Content}
 use Rattle.live_nodes.specs.Seats.{Place, Read, Hold, SeatView, seat_view, place, read, hold, room_at, IsIn, Each, Agree, without, with_draft}
-use Rattle.word_segments.specs.Segments.{size}
+use Rattle.word_segments.specs.Segments.{keys}
 use Rattle.live_nodes.specs.Rule.{first_key}
 
 -- what was read of a node since its word was taken last, and what a seat holds of it
@@ -145,12 +145,12 @@ module _ {V : Type 0} where
       → (k : ℕ) × (c : V) × (w ≡ made v c k len) × told v.client v.room.start (new_content v.room.draft len x) k c
   Makes told (compares key old new) v n more w = ⊥
 
-  -- One more segment is counted. Its words are the seat's room.
+  -- One more segment is counted. Its keys are the seat's room.
   abbrev pub Grows : ℕ → Tells (SeatView V)
   Grows root (reads key) v n more w = ⊥
   Grows root (writes key new) v n more w = ⊥
   Grows root (compares key old new) v n more w = (n ≢ old → w ≡ v)
-      × (n ≡ old → (more.first ≡ first_key root old) × (more.count ≡ size old) × (w ≡ given v more.first more.count))
+      × (n ≡ old → (more.first ≡ first_key root old) × (more.count ≡ keys) × (w ≡ given v more.first more.count))
 
   -- Two seats meet, and their clients learn of each other.
   abbrev pub Meets : (V → V → V → V → Type 0) → SeatView V → SeatView V → SeatView V → SeatView V → Type 0

@@ -4,13 +4,13 @@ use Rattle.std.specs.Prelude.{◌≡◌, ℕ, ◌+◌, ◌*◌, ◌<◌, ◌≤�
 use mathlib.Core.Option.{some}
 use lib.ListN.{get_elem?}
 use Rattle.word_book.specs.Book.{State}
-use Rattle.word_segments.specs.Segments.{before}
+use Rattle.word_segments.specs.Segments.{keys}
 use Rattle.live_nodes.specs.Nodes.{Content, Node, node, Owner, counts, in_room, IsNode}
 use Rattle.live_nodes.specs.Seats.{Place, place, Read, Hold, Room, SeatView, Each, Agree}
 
 -- The first key of the segment j. Before all segments are the count, and the root's words.
 abbrev pub first_key : ℕ → ℕ → ℕ
-first_key root j = root + 2 + before j
+first_key root j = root + 2 + keys * j
 
 abbrev pub PlaceFits : List Node → Place → Type 0
 PlaceFits ns p =

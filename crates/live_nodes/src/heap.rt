@@ -1,7 +1,7 @@
 //! All nodes of one book, with their words in memory: the root's, and segments that come in while others read.
 ghost use Rattle.std.specs.Prelude.{◌≡◌, ℕ, ◌+◌, ◌-◌, ◌*◌, ◌<◌, ◌≤◌, ◌^◌, [], ◌∷◌, length, replicate, None, IfOk, IfSome, IfNone, OnErr};
 ghost use Rattle.word_book.specs.Book.{Book, book_coded, name};
-ghost use Rattle.word_segments.specs.Segments.{AreWords, before};
+ghost use Rattle.word_segments.specs.Segments.{AreWords, before, keys, size};
 ghost use Rattle.live_nodes.specs.Nodes.{node_at};
 ghost use Rattle.live_nodes.specs.Seats.{seat_view, place, no_room};
 ghost use Rattle.live_nodes.specs.Acts.{Admits};
@@ -13,7 +13,7 @@ use crate::room;
 use std::alloc::{AllocError, Global};
 use std::marker::Model;
 use word_book::seat::Pens;
-use word_segments::place::{before_of, fitting, size_of};
+use word_segments::place::{KEYS, before_of, fitting, size_of};
 use word_segments::segments::{Segments, filled};
 
 /// A segment that a seat has as its room: the key of its first word, and how many words it has.
@@ -117,21 +117,21 @@ impl<V, L: NodeLaw<V>> Heap<V, L> {
     }
 
     /// So many words, with the keys from this one on, as those of a node. `None` where they don't lie in one segment, or it
-    /// isn't there yet.
+    /// isn't there yet. The root's words lie in none.
     #[inline(always)]
     pub fn span(&self, key: u64, count: usize) -> Option<&[Word<V, L>]>
         ensures { IfSome result (λ words. (length words.now ≡ count)
             × AreWords key self.now words.now) }
     {
-        let first = self.root_word.len() as u64;
-        if key >= first {
-            return self.segments.span(key, count);
-        }
-        let at = key as usize;
-        if count > self.root_word.len() - at {
-            return None;
-        }
-        Some(&self.root_word[at..at + count])
+        self.segments.span(key, count)
+    }
+
+    /// The words of the root. They are always there.
+    #[inline(always)]
+    pub fn root_words(&self) -> &[Word<V, L>]
+        ensures { (length result.now ≡ L.root + 1) × AreWords 1 self.now result.now }
+    {
+        &self.root_word[1..self.root_word.len()]
     }
 
     /// One more segment, whose words are the seat's room from then on. `None` where another thread is just making one. An
@@ -140,7 +140,7 @@ impl<V, L: NodeLaw<V>> Heap<V, L> {
         requires { seat.old.book ≡ self.now }
         ensures seat { (seat.new.book ≡ seat.old.book) × (seat.new.id ≡ seat.old.id) }
         ensures room { IfOk result (λ grown. IfSome grown (λ g. (512 ≤ g.count)
-            × (g.start < 2 ^ 62) × (seat.new.view ≡ given seat.old.view g.start g.count))) }
+            × (g.count ≤ keys) × (g.start < 2 ^ 62) × (seat.new.view ≡ given seat.old.view g.start keys))) }
         ensures lost { IfOk result (λ grown. IfNone grown (seat.new.view ≡ seat.old.view)) }
         ensures refused { OnErr result (seat.new.view ≡ seat.old.view) }
     {
@@ -158,9 +158,9 @@ impl<V, L: NodeLaw<V>> Heap<V, L> {
         requires { seat.old.book ≡ self.now }
         ensures seat { (seat.new.book ≡ seat.old.book) × (seat.new.id ≡ seat.old.id) }
         ensures room { IfOk result (λ grown. IfSome grown (λ g. (512 ≤ g.count)
-            × (g.start < 2 ^ 62) × (seat.new.view ≡ given seat.old.view g.start g.count))) }
-        ensures within { IfOk result (λ grown. IfSome grown (λ g.
-            g.start + g.count ≤ L.root + 2 + before most)) }
+            × (g.count ≤ keys) × (g.start < 2 ^ 62) × (seat.new.view ≡ given seat.old.view g.start keys))) }
+        ensures within { IfOk result (λ grown. IfSome grown (λ g. (j : ℕ) × (j < most)
+            × (g.start ≡ L.root + 2 + keys * j) × (g.count ≡ size j))) }
         ensures lost { IfOk result (λ grown. IfNone grown (seat.new.view ≡ seat.old.view)) }
         ensures refused { OnErr result (seat.new.view ≡ seat.old.view) }
     {
@@ -178,7 +178,7 @@ impl<V, L: NodeLaw<V>> Heap<V, L> {
             return Ok(None);
         }
         let count = size_of(number);
-        let start = first + before_of(number);
+        let start = first + KEYS * number;
         let segment = filled(words, count, pens);
         drop(self.segments.set(number, segment));
         Ok(Some(Grown { start, count }))

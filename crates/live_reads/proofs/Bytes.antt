@@ -1,6 +1,6 @@
 -- The bytes of a key, and which of them another word has.
-use Rattle.std.proofs.Common.{◌≡◌, ◌≢◌, ℕ, zero, suc, ◌+◌, ◌-◌, ◌*◌, ◌/◌, ◌%◌, ◌^◌, ◌<◌, ◌≤◌, Bool, false, not, cond, List, [], ◌∷◌, length, get_or, eqb, map, w8, w64, sym, ap, ◌∙◌, subst, arith, inl, inr}
-use Rattle.std.specs.Int.{bit_at}
+use Rattle.std.proofs.Common.{◌≡◌, ◌≢◌, ℕ, zero, suc, ◌+◌, ◌-◌, ◌*◌, ◌/◌, ◌%◌, ◌^◌, ◌<◌, ◌≤◌, Bool, false, not, cond, List, [], ◌∷◌, length, get_or, eqb, map, w8, w64, refl, sym, ap, ◌∙◌, subst, arith, inl, inr}
+use Rattle.std.specs.Int.{bit_at, to_be_bytes}
 use Rattle.std.specs.Int.RustNames.{bit_and}
 use Rattle.std.specs.Int.Count.{count_trailing_zeros}
 use Rattle.std.specs.Simd.Lanes.{mask_l, zip2, top}
@@ -21,18 +21,21 @@ pub digit_is : (h k : ℕ) → 1 ≤ h → k / 2 ^ (8 * (h - 1)) % 256 ≡ digit
 digit_is zero k l = absurd (omega (arith, l))
 digit_is (suc h) k l = let e : suc h - 1 ≡ h = omega arith in ap (λ n. k / 2 ^ (8 * n) % 256) e ∙ ap (λ n. n % 256) (sym (up_is h k))
 
+-- a byte of a key that was shifted by one
+moved : (k h : ℕ) → k / 256 / 2 ^ (8 * h) % 256 ≡ digit (suc (suc h)) k
+moved k h = ap (λ n. n % 256) (div-div-eq-div-mul k 256 (2 ^ (8 * h)) ∙ ap (λ n. k / n) (sym (pow-add 2 8 (8 * h)) ∙ ap (λ n. 2 ^ n) (let e : 8 + 8 * h ≡ 8 * suc h = omega arith in e))) ∙ ap (λ n. n % 256) (sym (up_is (suc h) k))
+
 -- the key's bytes but the lowest, behind one that is 0
-pub seven : (key a b c d e f g : ℕ) → a ≡ digit 8 key → b ≡ digit 7 key → c ≡ digit 6 key → d ≡ digit 5 key → e ≡ digit 4 key → f ≡ digit 3 key → g ≡ digit 2 key
-    → (i : ℕ) → 1 ≤ i → i < 8 → get_or (0 ∷ a ∷ b ∷ c ∷ d ∷ e ∷ f ∷ g ∷ []) i 0 ≡ digit (9 - i) key
-seven key a b c d e f g ea eb ec ed ee ef eg zero l h = absurd (omega (arith, l))
-seven key a b c d e f g ea eb ec ed ee ef eg (suc zero) l h = ea
-seven key a b c d e f g ea eb ec ed ee ef eg (suc (suc zero)) l h = eb
-seven key a b c d e f g ea eb ec ed ee ef eg (suc (suc (suc zero))) l h = ec
-seven key a b c d e f g ea eb ec ed ee ef eg (suc (suc (suc (suc zero)))) l h = ed
-seven key a b c d e f g ea eb ec ed ee ef eg (suc (suc (suc (suc (suc zero))))) l h = ee
-seven key a b c d e f g ea eb ec ed ee ef eg (suc (suc (suc (suc (suc (suc zero)))))) l h = ef
-seven key a b c d e f g ea eb ec ed ee ef eg (suc (suc (suc (suc (suc (suc (suc zero))))))) l h = eg
-seven key a b c d e f g ea eb ec ed ee ef eg (suc (suc (suc (suc (suc (suc (suc (suc i)))))))) l h = absurd (omega (arith, h))
+pub seven : (key i : ℕ) → 1 ≤ i → i < 8 → get_or (to_be_bytes w64 (key / 256)) i 0 ≡ digit (9 - i) key
+seven key zero l h = absurd (omega (arith, l))
+seven key (suc zero) l h = moved key 6
+seven key (suc (suc zero)) l h = moved key 5
+seven key (suc (suc (suc zero))) l h = moved key 4
+seven key (suc (suc (suc (suc zero)))) l h = moved key 3
+seven key (suc (suc (suc (suc (suc zero))))) l h = moved key 2
+seven key (suc (suc (suc (suc (suc (suc zero)))))) l h = moved key 1
+seven key (suc (suc (suc (suc (suc (suc (suc zero))))))) l h = refl
+seven key (suc (suc (suc (suc (suc (suc (suc (suc i)))))))) l h = absurd (omega (arith, h))
 
 abbrev pub differs : ℕ → ℕ → Bool
 differs a b = not (eqb a b)

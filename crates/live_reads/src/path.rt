@@ -60,8 +60,9 @@ fn root_by<S: Sees>(nodes: &Nodes, key: u64, seat: &mut Seat) -> Option<u64>
         × SeesRoot S.sees seat.old.view seat.new.view result
         × IfSome result (λ name. Names seat.new.view name key 8) }
 {
-    let root_word = nodes.word(1)?;
-    let number = nodes.word(2)?;
+    let words = nodes.root_words();
+    let root_word = &words[0];
+    let number = &words[1];
     let taken = node::take(root_word, seat);
     if taken % 4 != 0 {
         return None;

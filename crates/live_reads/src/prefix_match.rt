@@ -7,7 +7,7 @@ ghost use Rattle.live_law.specs.Levels.{digit};
 ghost use Rattle.live_reads.specs.Paths.{Sights, Leaves, IsOpen, Keeps, Ended};
 ghost use Rattle.live_reads.specs.Sees.{Sees, HasMet, Follows, IsNextOpen};
 
-use crate::path::{Nodes, Opened, Seat, byte_at, look, open};
+use crate::path::{Nodes, Opened, Seat, look, open};
 use live_law::law::{Asks, Head, MapLaw, MapView};
 use live_layout::form::slot_below;
 use live_layout::head::prefix_len;
@@ -61,18 +61,10 @@ fn other_lanes(head: u64, key: u64) -> u64
     ensures same { (k : ℕ) → 1 ≤ k → k < 8 → lane head k ≡ digit (9 - k) key → bit_at result k ≡ 0 }
     ensures other { (k : ℕ) → 1 ≤ k → k < 8 → lane head k ≢ digit (9 - k) key → bit_at result k ≡ 1 }
 {
-    let bytes = [
-        0,
-        byte_at(key, 8),
-        byte_at(key, 7),
-        byte_at(key, 6),
-        byte_at(key, 5),
-        byte_at(key, 4),
-        byte_at(key, 3),
-        byte_at(key, 2),
-    ];
     let lanes = u8x8::from_array(head.to_le_bytes());
-    lanes.simd_ne(u8x8::from_array(bytes)).to_bitmask()
+    lanes
+        .simd_ne(u8x8::from_array((key >> 8).to_be_bytes()))
+        .to_bitmask()
 }
 
 /// What a key sees of a node with this head.

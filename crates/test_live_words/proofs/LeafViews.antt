@@ -11,7 +11,7 @@ use Rattle.node_base.specs.declared.base_node.NodeType.TheVariants.{N4, N16, N48
 use Rattle.spec_node.specs.TableNode.{Child}
 use Rattle.spec_node.specs.declared.child.Child.TheVariants.{Payload, Node}
 use Rattle.word_book.specs.Book.{Book, Name, reads, writes, compares, none_joined, Joined}
-use Rattle.word_segments.specs.Segments.{AreWords}
+use Rattle.word_segments.specs.Segments.{AreWords, keys}
 use Rattle.node_base.specs.Form.{form_place}
 use Rattle.live_nodes.specs.Nodes.{Content}
 use Rattle.live_nodes.specs.Seats.{Place, place, Read, read, Hold, hold, Room, room_at, SeatView, seat_view, IsIn, Agree, with_draft}
@@ -355,10 +355,10 @@ abbrev pub HasRoom : View → View → ℕ → Type 0
 HasRoom v w key = (n : ℕ) × (512 ≤ n) × (key < 2 ^ 62) × (w ≡ given v key n)
 
 abbrev pub HasGot : View → View → Grown → Type 0
-HasGot v w g = (512 ≤ g.count) × (g.start < 2 ^ 62) × (w ≡ given v g.start g.count)
+HasGot v w g = (512 ≤ g.count) × (g.count ≤ keys) × (g.start < 2 ^ 62) × (w ≡ given v g.start keys)
 
 pub room_in : (o : Option Grown) (g : Grown) (v w : View) → o ≡ Some g → IfSome o (HasGot v w) → HasRoom v w g.start
-room_in o g v w is r = let got = subst (λ (z : Option Grown). IfSome z (HasGot v w)) is r in (g.count, got.0, got.1, got.2)
+room_in o g v w is r = let got = subst (λ (z : Option Grown). IfSome z (HasGot v w)) is r in (keys, omega arith, got.2, got.3)
 
 head_or : List ℕ → ℕ
 head_or [] = 1

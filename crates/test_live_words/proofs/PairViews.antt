@@ -3,6 +3,7 @@ use Rattle.std.proofs.Common.{◌≡◌, ◌≢◌, ℕ, zero, suc, ◌+◌, ◌
 use mathlib.Core.Logic.{dite}
 use native.Mathlib.Decide.{ℕ_discrete}
 use Rattle.word_book.specs.Book.{reads, writes, compares, none_joined, Joined}
+use Rattle.word_segments.specs.Segments.{keys}
 use Rattle.live_nodes.specs.Nodes.{Content}
 use Rattle.live_nodes.specs.Seats.{Place, place, Read, read, Hold, hold, IsIn, SeatView, seat_view, room_at, with_draft}
 use Rattle.live_nodes.specs.Acts.{Frees}
@@ -202,10 +203,10 @@ abbrev pub HasRoom : View → View → ℕ → Type 0
 HasRoom v w key = (n : ℕ) × (512 ≤ n) × (key < 2 ^ 62) × (w ≡ given v key n)
 
 abbrev pub HasGot : View → View → Grown → Type 0
-HasGot v w g = (512 ≤ g.count) × (g.start < 2 ^ 62) × (w ≡ given v g.start g.count)
+HasGot v w g = (512 ≤ g.count) × (g.count ≤ keys) × (g.start < 2 ^ 62) × (w ≡ given v g.start keys)
 
 pub room_in : (o : Option Grown) (g : Grown) (v w : View) → o ≡ Some g → IfSome o (HasGot v w) → HasRoom v w g.start
-room_in o g v w is r = let got = subst (λ (z : Option Grown). IfSome z (HasGot v w)) is r in (g.count, got.0, got.1, got.2)
+room_in o g v w is r = let got = subst (λ (z : Option Grown). IfSome z (HasGot v w)) is r in (keys, omega arith, got.2, got.3)
 
 module _ (v : View) (key n x : ℕ) (long : 512 ≤ n) where
   -- its first number is written

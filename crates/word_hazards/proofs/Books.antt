@@ -1,10 +1,10 @@
 -- The rule at the beginning, as seats enter and meet, and as words join.
-use Rattle.std.proofs.Common.{◌≡◌, ◌≢◌, ◌⊎◌, ⊎_elim, inl, inr, ℕ, zero, suc, ◌+◌, List, [], ◌∷◌, ◌++◌, length, set, length-set, refl, sym, ap, ◌∙◌, subst, arith}
+use Rattle.std.proofs.Common.{◌≡◌, ◌≢◌, ◌⊎◌, ⊎_elim, inl, inr, ℕ, zero, suc, ◌+◌, ◌*◌, List, [], ◌∷◌, ◌++◌, length, set, length-set, refl, sym, ap, ◌∙◌, subst, arith}
 use mathlib.Core.Option.{some, some-injective, some-ne-none}
 use lib.ListN.{get_elem?, replicate}
 use Rattle.atomic_table.proofs.Lists.{set_here, set_else, set_again, at_longer}
 use Rattle.word_book.specs.Book.{State, Loads, Stores, Exchanges, Enters, Meets}
-use Rattle.word_segments.specs.Segments.{size, before}
+use Rattle.word_segments.specs.Segments.{keys}
 use Rattle.word_hazards.specs.Views.{slot_of, View, nobody, HasLent, HasReclaimed}
 use Rattle.word_hazards.specs.Steps.{state_key, owner_key, link_key, Same, Grows}
 use Rattle.word_hazards.specs.inner.Rule.{AreGrown, AreSlots, IsSeat, AreApart, AreHazards, Meet}
@@ -33,15 +33,12 @@ length_longer [] zero = refl
 length_longer [] (suc n) = let e : length (replicate {A = ℕ} n 0) ≡ 0 + n = length_longer [] n in let f : length (replicate {A = ℕ} (suc n) 0) ≡ suc (length (replicate {A = ℕ} n 0)) = refl in omega arith
 length_longer (x ∷ ws) n = let e : length (ws ++ replicate n 0) ≡ length ws + n = length_longer ws n in omega arith
 
-before_next : (a : ℕ) → before (a + 1) ≡ before a + size a
-before_next a = let e : a + 1 ≡ suc a = omega arith in ap before e
-
 -- A SEGMENT joins
 pub grows : (id a : ℕ) (v : View) → Exchanges AreHazards Grows id v 64 a (a + 1)
 grows id a v s n r at there = (
   (λ is.
       let ws : List ℕ = set s.words 64 (a + 1) in
-      let more : List ℕ = replicate (size a) 0 in
+      let more : List ℕ = replicate keys 0 in
       let other : (h y : ℕ) → h ≢ 64 → get_elem? s.words h ≡ some y → get_elem? (ws ++ more) h ≡ some y = λ h y ne e. at_longer ws more h y (set_else s.words 64 h (a + 1) ne ∙ e) in
       let after : (w : View) → IsSeat s.words w → IsSeat (ws ++ more) w = λ w b. record {
         hazard = λ h p. let q = b.hazard h p in let low = q.0 in (q.0, other h w.announced (λ z. omega (arith, z, low)) q.1, q.2);
@@ -53,14 +50,14 @@ grows id a v s n r at there = (
       let g = r.grown in
       let same = same_at s.words 64 64 g.number n refl g.is there in
       let count : g.number ≡ a = same ∙ is in
-      let len : length s.words ≡ 65 + before a = g.so ∙ ap (λ (z : ℕ). 65 + before z) count in
+      let len : length s.words ≡ 65 + keys * a = g.so ∙ ap (λ (z : ℕ). 65 + keys * z) count in
       let grown : AreGrown (ws ++ more) = record {
         number = a + 1;
         is = at_longer ws more 64 (a + 1) (set_here s.words 64 (a + 1) (within s.words 64 n there));
-        so = length_longer ws (size a) ∙ (let e = length-set s.words 64 (a + 1) in let f = before_next a in omega (arith, e, f, len));
+        so = length_longer ws keys ∙ (let e = length-set s.words 64 (a + 1) in omega (arith, e, len));
       } in (
         v,
-        size a,
+        keys,
         moves s r id v v (ws ++ more) at grown (λ j w e ne. after w (r.seats j w e)) (after v (r.seats id v at)) (λ j w e ne. pair s r id v at j w e ne),
         (refl, λ e. (refl, len)),
       )),

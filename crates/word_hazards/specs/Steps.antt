@@ -1,7 +1,7 @@
 -- WHICH WORDS there are, and what each step makes of a seat's view.
 use Rattle.std.specs.Prelude.{◌≡◌, ◌≢◌, ℕ, zero, suc, ◌+◌, ◌-◌, ◌*◌, ◌/◌, ◌%◌, ◌<◌, ◌≤◌, true, false, List, [], ◌∷◌, Option, Some, None}
 use Rattle.word_book.specs.Book.{reads, writes, compares, Tells}
-use Rattle.word_segments.specs.Segments.{size, before}
+use Rattle.word_segments.specs.Segments.{keys}
 use Rattle.word_hazards.specs.Views.{generation_of, ticket, In, Claim, View, HasIssued, HasReclaimed}
 
 -- Words 0 to 63 are hazards. A hazard with 0 is nobody's, one with 1 announces nothing, and one with t + 2 announces the ticket t.
@@ -173,6 +173,6 @@ Reclaims (writes k x) v n m w = Unit {0}
 
 -- A segment was counted, and its words have joined.
 abbrev pub Grows : Tells View
-Grows (compares k a b) v n m w = (w ≡ v) × (n ≡ a → (m.count ≡ size a) × (m.first ≡ 65 + before a))
+Grows (compares k a b) v n m w = (w ≡ v) × (n ≡ a → (m.count ≡ keys) × (m.first ≡ 65 + keys * a))
 Grows (reads k) v n m w = Unit {0}
 Grows (writes k x) v n m w = Unit {0}

@@ -1,6 +1,6 @@
 //! The book: how it begins, and how words join.
-ghost use Rattle.std.specs.Prelude.{◌≡◌, ◌+◌, ◌<◌, IfSome};
-ghost use Rattle.word_segments.specs.Segments.{size, before};
+ghost use Rattle.std.specs.Prelude.{◌≡◌, ◌+◌, ◌*◌, ◌<◌, IfSome};
+ghost use Rattle.word_segments.specs.Segments.{keys};
 ghost use Rattle.word_hazards.specs.Views.{nobody};
 ghost use Rattle.word_hazards.specs.Steps.{link_key};
 
@@ -48,7 +48,7 @@ pub fn grow(count: &HazardWord, number: u64, seat: &mut HazardSeat) -> Option<Pe
     requires book { seat.old.book ≡ count.now.book }
     requires count { (count.now.key ≡ 64) × (number < 4294967296) }
     ensures seat { (seat.new.book ≡ seat.old.book) × (seat.new.view ≡ seat.old.view) }
-    ensures pens { IfSome result (λ pens. (pens.book ≡ seat.old.book) × (pens.next ≡ 65 + before number) × (pens.left ≡ size number)) }
+    ensures pens { IfSome result (λ pens. (pens.book ≡ seat.old.book) × (pens.next ≡ 65 + keys * number) × (pens.left ≡ keys)) }
 {
     let (found, pens) = count.compare_exchange::<Grows>(number, number + 1, seat);
     if found == number { Some(pens) } else { None }

@@ -12,11 +12,20 @@ use word_book::word::Word;
 use word_hazards::book::{enter, grow, number, open};
 use word_hazards::hazard::HAZARDS;
 use word_hazards::rule::{HazardRule, HazardSeat, HazardWord, Knowledge};
-use word_segments::place::size_of;
+use word_segments::place::{KEYS, locate, size_of};
 use word_segments::segments::{Segments, filled as filled_words};
 
 // How many segments there may be, with some more than 2^32 slots.
 const MOST: u64 = 262_150;
+
+/// The slot that is used first, second and so on, by that place. A segment has keys for 16,384 slots, also where it has fewer.
+pub fn slot_at(place: u64) -> Option<u64>
+    ensures { IfSome result (λ slot. slot < 4294967296) }
+{
+    let (number, word) = locate(place.checked_mul(4)?);
+    let slot = number.checked_mul(KEYS / 4)?.checked_add(word / 4)?;
+    if slot < 1 << 32 { Some(slot) } else { None }
+}
 
 /// The words of a slot.
 #[derive(Clone, Copy)]

@@ -27,8 +27,13 @@ abbrev pub directed_coded : Coded Directed
 directed_coded = coded_via (coded× coded_ℕ (coded× coded_ℕ book_coded)) (λ (d : Directed). (d.base, (d.most, d.book)))
     (λ x y e i. record { base = (e i).0; most = (e i).1.0; book = (e i).1.1 })
 
+-- Each segment has so many keys, also where it has fewer words. So a word's segment and its place there are the high and the low
+-- bits of its key.
+abbrev pub keys : ℕ
+keys = 65536
+
 abbrev pub first_key : Directed → ℕ → ℕ
-first_key d j = d.base + before j
+first_key d j = d.base + keys * j
 
 -- These words have the keys from k on.
 abbrev pub AreWords : ℕ → Book → List Name → Type 0

@@ -1,14 +1,17 @@
-//! Which segment a word is in, and which shelf a segment.
+//! Which segment a word is in, how many words a segment has, and which shelf it is on.
 ghost use Rattle.std.specs.Prelude.{◌≡◌, ◌+◌, ◌*◌, ◌/◌, ◌<◌, ◌≤◌, ◌^◌};
 ghost use Rattle.boxcar.specs.Table.{span, IsAt};
-ghost use Rattle.word_segments.specs.Segments.{size, before, IsWithin};
+ghost use Rattle.word_segments.specs.Segments.{size, before, keys, IsWithin};
 
 /// How many shelves a directory has. Shelf `b` is for `32 * 2^b` segments.
 pub const SHELVES: usize = 40;
 
+/// How many keys each segment has, also where it has fewer words.
+pub const KEYS: u64 = 65_536;
+
 /// How many words the segment `number` has.
 pub fn size_of(number: u64) -> usize
-    ensures { (result ≡ size number) × (result < 2 ^ 17) }
+    ensures { (result ≡ size number) × (512 ≤ result) × (result ≤ keys) }
 {
     if number < 224 {
         512 << (number / 32)
@@ -31,7 +34,6 @@ pub fn before_of(number: u64) -> u64
 
 // The segment of a word among those that double, and the word's place there. By 16,384 more, a place has its segment in the five
 // bits below its highest one.
-#[inline(always)]
 fn locate_near(place: u64) -> (u64, u64)
     requires { place < 2080768 }
     ensures within { IsWithin place result.0 result.1 }
@@ -45,7 +47,6 @@ fn locate_near(place: u64) -> (u64, u64)
 }
 
 // The segment of a word behind these, and the word's place there.
-#[inline(always)]
 fn locate_far(place: u64) -> (u64, u64)
     requires { 2080768 ≤ place }
     ensures within { IsWithin place result.0 result.1 }
@@ -60,19 +61,13 @@ pub fn fitting(bytes: u64) -> u64
     ensures fits { 8 * before result ≤ bytes }
     ensures most { bytes < 8 * before (result + 1) }
 {
-    let words = bytes / 8;
-    if words < 2080768 {
-        return locate_near(words).0;
-    }
-    locate_far(words).0
+    locate(bytes / 8).0
 }
 
-/// The segment of a word, and the word's place there.
-#[inline(always)]
+/// The segment of a word by its place among the words of all segments, and the word's place there.
 pub fn locate(place: u64) -> (u64, u64)
-    requires { place < 2 ^ 60 }
     ensures within { IsWithin place result.0 result.1 }
-    ensures small { result.0 < 2 ^ 44 + 225 }
+    ensures small { result.0 ≤ place / 65536 + 224 }
 {
     if place < 2080768 {
         return locate_near(place);

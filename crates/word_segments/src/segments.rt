@@ -1,10 +1,10 @@
 //! The directory.
-ghost use Rattle.std.specs.Prelude.{◌≡◌, ℕ, ◌+◌, ◌-◌, ◌<◌, ◌≤◌, ◌^◌, [], ◌∷◌, length, IfOk, IfErr, IfSome};
+ghost use Rattle.std.specs.Prelude.{◌≡◌, ℕ, ◌+◌, ◌-◌, ◌*◌, ◌<◌, ◌≤◌, ◌^◌, [], ◌∷◌, length, IfOk, IfErr, IfSome};
 ghost use Rattle.boxcar.specs.Table.{span, first, others, Tagged};
 ghost use Rattle.word_book.specs.Book.{name};
 ghost use Rattle.word_segments.specs.Segments.{size, Directed, directed_coded, first_key, AreWords, IsSegment, numbers, directed_by};
 
-use crate::place::{SHELVES, locate, shelve, size_of, span_of};
+use crate::place::{KEYS, SHELVES, shelve, size_of, span_of};
 use boxcar::slot::{OnceSlot, SlotRule};
 use boxcar::tag::{Names, Tag};
 use std::alloc::{AllocError, Global};
@@ -15,8 +15,8 @@ use word_book::word::Word;
 // How many segments lie in the directory itself: those of 100 MB.
 const NEAR: usize = 384;
 
-// One past the last place of a word.
-const LIMIT: u64 = 1 << 60;
+// One past the last number of a segment.
+const LIMIT: u64 = 1 << 44;
 
 /// What is in a slot of a shelf, by the segment's number and the directory's numbers.
 pub struct InOrder;
@@ -84,13 +84,13 @@ impl<V, P: Rule<V>> Model for Segments<V, P> {
     ghost view = { λ s. directed_by s.tag.numbers };
 
     ghost invariant = { λ s. Tagged s.tag.numbers 0 40 s.shelves.items × (first s.tag.numbers ≡ s.base)
-        × Tagged s.tag.numbers 0 384 s.near.items };
+        × Tagged s.tag.numbers 0 384 s.near.items × (s.base < 2 ^ 63) };
 }
 
-/// The next words of a book, as many as the pens may write, in memory that is there.
+/// The next words of a book, in memory that is there. The pens may write that many or more.
 pub fn filled<V, P: Rule<V>>(words: Vec<Word<V, P>>, count: usize, pens: Pens) -> Vec<Word<V, P>>
     requires room { (words.items ≡ []) × (count ≤ words.cap) }
-    requires rights { pens.left ≡ count }
+    requires rights { count ≤ pens.left }
     ensures count { length result.items ≡ count }
     ensures words { AreWords pens.next pens.book result.items }
 {
@@ -112,6 +112,7 @@ impl<V, P: Rule<V>> Segments<V, P> {
         most: u64,
         word: &Word<V, P>,
     ) -> Result<Segments<V, P>, AllocError>
+        requires { base < 2 ^ 63 }
         ensures { IfOk result (λ s. s ≡ record { base = base; most = most; book = word.now.book }) }
     {
         let origin = Origin { base, most, word };
@@ -134,8 +135,8 @@ impl<V, P: Rule<V>> Segments<V, P> {
     // The segment with a number, if it is in the directory.
     #[inline(always)]
     fn segment(&self, number: u64) -> Option<&Vec<Word<V, P>>>
-        requires { number < 2 ^ 44 + 225 }
-        ensures { IfSome result (λ words. IsSegment self.now number words.now.items) }
+        ensures segment { IfSome result (λ words. IsSegment self.now number words.now.items) }
+        ensures small { IfSome result (λ _. number < 2 ^ 44) }
     {
         if number < 384 {
             return self.near[number as usize].get();
@@ -143,51 +144,55 @@ impl<V, P: Rule<V>> Segments<V, P> {
         self.far(number)
     }
 
-    // The same of a segment on a shelf.
+    // The segment with a number on a shelf, if it is there.
     #[inline(never)]
     fn far(&self, number: u64) -> Option<&Vec<Word<V, P>>>
-        requires { number < 2 ^ 44 + 225 }
-        ensures { IfSome result (λ words. IsSegment self.now number words.now.items) }
+        ensures segment { IfSome result (λ words. IsSegment self.now number words.now.items) }
+        ensures small { IfSome result (λ _. number < 2 ^ 44) }
     {
+        if number >= LIMIT {
+            return None;
+        }
         let (shelf, slot) = shelve(number);
         let slots = self.shelves[shelf].get()?;
         slots[slot].get()
     }
 
-    /// The word with a key, if its segment is in the directory.
+    // The words of a key's segment from the key's own on, if that is in the directory and has it. A key before the first one is in a
+    // segment past the limit, by a difference that wraps around.
     #[inline(always)]
-    pub fn get(&self, key: u64) -> Option<&Word<V, P>>
-        requires { self.now.base ≤ key }
-        ensures { IfSome result (λ word. word.now ≡ name key self.now.book) }
+    fn from(&self, key: u64) -> Option<&[Word<V, P>]>
+        ensures { IfSome result (λ words. AreWords key self.now.book words.now) }
     {
-        let place = key - self.base;
-        if place >= LIMIT {
+        let place = key.wrapping_sub(self.base);
+        let segment = self.segment(place / KEYS)?;
+        let at = (place % KEYS) as usize;
+        if at > segment.len() {
             return None;
         }
-        let (number, offset) = locate(place);
-        let segment = self.segment(number)?;
-        Some(&segment[offset as usize])
+        Some(&segment[at..segment.len()])
+    }
+
+    /// The word with a key, if its segment is in the directory and has it.
+    #[inline(always)]
+    pub fn get(&self, key: u64) -> Option<&Word<V, P>>
+        ensures { IfSome result (λ word. word.now ≡ name key self.now.book) }
+    {
+        self.from(key)?.first()
     }
 
     /// So many words, with the keys from this one on. `None` where they don't lie in one segment, or it isn't in the
     /// directory.
     #[inline(always)]
     pub fn span(&self, key: u64, count: usize) -> Option<&[Word<V, P>]>
-        requires { self.now.base ≤ key }
         ensures { IfSome result (λ words. (length words.now ≡ count)
             × AreWords key self.now.book words.now) }
     {
-        let place = key - self.base;
-        if place >= LIMIT {
+        let words = self.from(key)?;
+        if count > words.len() {
             return None;
         }
-        let (number, offset) = locate(place);
-        let segment = self.segment(number)?;
-        let at = offset as usize;
-        if count > segment.len() - at {
-            return None;
-        }
-        Some(&segment[at..at + count])
+        Some(&words[0..count])
     }
 
     /// Memory for a segment, which then has a shelf. `None` where another thread is just making that.

@@ -51,32 +51,34 @@ fn a_leaf_is_read_as_it_was_made_and_written(rt: HostRuntime) -> Result<(), Fail
     Ok(())
 }
 
-// Which leaf, counted from 0, and its key. Each lies in a segment of its own: 32 of 512 words, 32 of 1,024 and so on, and from the
-// leaf 224 on all of 65,536. That of the leaf 384 is the first on a shelf.
-const KEYS: [(u64, u64); 12] = [
-    (0, 3),
-    (1, 515),
-    (31, 15_875),
-    (32, 16_387),
-    (33, 17_411),
-    (63, 48_131),
-    (64, 49_155),
-    (223, 2_048_003),
-    (224, 2_080_771),
-    (225, 2_146_307),
-    (383, 12_500_995),
-    (384, 12_566_531),
+// Which leaf, counted from 0, and the words of all segments before its own. Each lies in a segment of its own: 32 of 512 words, 32 of
+// 1,024 and so on, and from the leaf 224 on all of 65,536. That of the leaf 384 is the first on a shelf.
+const WORDS: [(u64, u64); 12] = [
+    (0, 0),
+    (1, 512),
+    (31, 15_872),
+    (32, 16_384),
+    (33, 17_408),
+    (63, 48_128),
+    (64, 49_152),
+    (223, 2_048_000),
+    (224, 2_080_768),
+    (225, 2_146_304),
+    (383, 12_500_992),
+    (384, 12_566_528),
 ];
 
-// How many leaves have the keys that they should.
+// How many leaves have the keys that they should, behind so many words.
 fn right_keys(nodes: &Nodes, alloc: Global) -> usize {
     let mut right = 0usize;
     let mut next = 0u64;
-    for (number, key) in KEYS {
+    for (number, words) in WORDS {
         for other in next..number {
             let _ = named(nodes, alloc, other);
         }
-        if named(nodes, alloc, number) == key {
+        let (bytes, _) = nodes.usage(&mut enter(nodes));
+        let key = named(nodes, alloc, number);
+        if key == number.wrapping_mul(65_536).wrapping_add(3) && bytes == words.wrapping_mul(8) {
             right = right.wrapping_add(1);
         }
         next = number.wrapping_add(1);
@@ -87,7 +89,7 @@ fn right_keys(nodes: &Nodes, alloc: Global) -> usize {
 #[test]
 fn each_leaf_lies_in_its_own_segment(rt: HostRuntime) -> Result<(), Fail> {
     let nodes = new_nodes(rt.alloc())?;
-    assert!(rt; right_keys(&nodes, rt.alloc()) == KEYS.len());
+    assert!(rt; right_keys(&nodes, rt.alloc()) == WORDS.len());
     assert!(rt; looked(&nodes) == Some((384, 384)));
     Ok(())
 }
@@ -240,7 +242,7 @@ fn an_obsolete_leaf_is_neither_read_nor_written(rt: HostRuntime) -> Result<(), F
     assert!(rt; retired(&nodes));
     assert!(rt; looked(&nodes) == None);
     assert!(rt; !written(&nodes, 9) && !renewed(&nodes, 9) && !retired(&nodes));
-    assert!(rt; named(&nodes, rt.alloc(), 9) == 3 + 512);
+    assert!(rt; named(&nodes, rt.alloc(), 9) == 3 + 65_536);
     assert!(rt; looked(&nodes) == Some((9, 9)));
     Ok(())
 }

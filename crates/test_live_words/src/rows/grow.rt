@@ -69,9 +69,7 @@ pub fn name(nodes: &Nodes, leaf: u64, seat: &mut Guest) -> bool
     ensures book { seat.new.book ≡ seat.old.book }
     ensures known { KnowsAlike seat.old.view seat.new.view }
 {
-    let Some(words) = nodes.span(1, 2) else {
-        return false;
-    };
+    let words = nodes.root_words();
     let free = node::take(&words[0], seat);
     if free % 4 != 0 || free >= 1 << 62 {
         return false;

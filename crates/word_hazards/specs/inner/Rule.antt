@@ -1,9 +1,9 @@
 -- THE RULE of hazards and slots: what the words are, by what each seat knows.
-use Rattle.std.specs.Prelude.{◌≡◌, ◌≢◌, ℕ, ◌+◌, ◌<◌, ◌≤◌, true, List, length, Some}
+use Rattle.std.specs.Prelude.{◌≡◌, ◌≢◌, ℕ, ◌+◌, ◌*◌, ◌<◌, ◌≤◌, true, List, length, Some}
 use mathlib.Core.Option.{some}
 use lib.ListN.{get_elem?}
 use Rattle.word_book.specs.Book.{State}
-use Rattle.word_segments.specs.Segments.{before}
+use Rattle.word_segments.specs.Segments.{keys}
 use Rattle.word_hazards.specs.Views.{slot_of, generation_of, In, Claim, View, HasLent, HasIssued, HasReclaimed}
 use Rattle.word_hazards.specs.Steps.{state_key, owner_key, claimed_in, present_in, retired_in, free_in}
 
@@ -14,7 +14,7 @@ pub record Holds (words : List ℕ) (key : ℕ) (P : ℕ → Type 0) : Type 0 wh
   pub so : P number
 
 abbrev pub AreGrown : List ℕ → Type 0
-AreGrown words = Holds words 64 (λ segments. length words ≡ 65 + before segments)
+AreGrown words = Holds words 64 (λ segments. length words ≡ 65 + keys * segments)
 
 abbrev pub IsHazard : List ℕ → View → ℕ → Type 0
 IsHazard words v k = (k < 64) × (get_elem? words k ≡ some v.announced) × (1 ≤ v.announced)

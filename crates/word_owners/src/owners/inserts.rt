@@ -5,6 +5,7 @@ ghost use Rattle.word_hazards.specs.Steps.{issuing};
 ghost use Rattle.word_owners.specs.inner.Handles.{LeavesRow};
 
 use super::{HALF, LOW, Lack, Owners, TRIES};
+use crate::directory::slot_at;
 use crate::handle::Handle;
 use std::alloc::{AllocError, Global};
 use std::hint::spin_loop;
@@ -19,14 +20,15 @@ impl Owners {
         ensures slot { IfSome result (λ slot. slot < 4294967296) }
     {
         for _ in 0..TRIES {
-            let slot = self.used.load(SeqCst);
-            if slot >= LOW {
+            let used = self.used.load(SeqCst);
+            if used >= LOW {
                 return None;
             }
+            let slot = slot_at(used)?;
             self.directory.slot(slot)?;
             if self
                 .used
-                .compare_exchange(slot, slot + 1, SeqCst, SeqCst)
+                .compare_exchange(used, used + 1, SeqCst, SeqCst)
                 .is_ok()
             {
                 return Some(slot);
@@ -44,15 +46,23 @@ impl Owners {
             spin_loop();
             return Ok(());
         }
-        let slot = self.used.load(SeqCst);
-        let grown = if slot < LOW && self.directory.slot(slot).is_some() {
-            Ok(true)
-        } else {
-            self.directory.grow(alloc, seat)
-        };
+        let grown = self.grow_once(alloc, seat);
         self.growing.store(0, SeqCst);
         grown?;
         Ok(())
+    }
+
+    // Makes slots, unless there is one that was never used.
+    fn grow_once(&self, alloc: Global, seat: &mut HazardSeat) -> Result<bool, AllocError>
+        requires table { seat.old.book ≡ self.now }
+        ensures seat { (seat.new.book ≡ seat.old.book) × (seat.new.view ≡ seat.old.view) }
+    {
+        if let Some(slot) = slot_at(self.used.load(SeqCst)) {
+            if self.directory.slot(slot).is_some() {
+                return Ok(true);
+            }
+        }
+        self.directory.grow(alloc, seat)
     }
 
     // A slot that is most likely free. `None` where slots were made first.

@@ -1,4 +1,5 @@
 use Rattle.std.proofs.Common.{rules, ap, Some, ◌≡◌, ◌<◌, ◌≤◌, ◌^◌}
+use Rattle.word_segments.specs.Segments.{keys}
 use Rattle.live_nodes.specs.Seats.{SeatView}
 use Rattle.live_nodes.specs.Plays.{given}
 use Rattle.live_law.specs.Views.{View}
@@ -11,5 +12,5 @@ returns c =
     let w = c.grow.new.seat.view in
     let g = c.in-Some.grown in
     let some : c.in_ok-grown.field-0 ≡ Some g = search rules in
-    let got = some_by c.in_ok-grown.field-0 g some (λ x. (512 ≤ x.count) × (x.start < 2 ^ 62) × (w ≡ given v x.start x.count)) c.in_ok-grown.ensures.room in
-    record { told = (c.grow.ensures.seat.0, c.grow.ensures.seat.1, ready_given v w c.args.room.now g.start g.count c.requires.ready got.2, ap (λ (z : SeatView View). z.client.seen) got.2) }
+    let got = some_by c.in_ok-grown.field-0 g some (λ x. (512 ≤ x.count) × (x.count ≤ keys) × (x.start < 2 ^ 62) × (w ≡ given v x.start keys)) c.in_ok-grown.ensures.room in
+    record { told = (c.grow.ensures.seat.0, c.grow.ensures.seat.1, ready_given v w c.args.room.now g.start g.count keys got.1 c.requires.ready got.3, ap (λ (z : SeatView View). z.client.seen) got.3) }

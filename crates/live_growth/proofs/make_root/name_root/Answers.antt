@@ -32,12 +32,12 @@ module _ (g : Over) (c : In-Some-lock_root_word g) where
   abbrev named : Content
   named = c.in-Some-lock_root_word.ensures.locked.content
 
-  held : HoldsRootWord c.lock_root_word.new.seat.view c.lock_root_word.new.seat.book c.in-Some.words.now c.in-Some-lock_root_word.free named
-  held = holds_root_word c.args.seat.now.view c.lock_root_word.new.seat.view c.in-Some-lock_root_word.free c.in-Some-lock_root_word.ensures.locked c.lock_root_word.new.seat.book c.in-Some.words.now
-      (subst (λ (b : Book). AreOf p b c.in-Some.words.now) (sym book_then) c.in-Some.ensures) c.requires.root_word c.requires.rests.0 c.requires.rests.1
+  held : HoldsRootWord c.lock_root_word.new.seat.view c.lock_root_word.new.seat.book c.root_words-words.result.now c.in-Some-lock_root_word.free named
+  held = holds_root_word c.args.seat.now.view c.lock_root_word.new.seat.view c.in-Some-lock_root_word.free c.in-Some-lock_root_word.ensures.locked c.lock_root_word.new.seat.book c.root_words-words.result.now
+      (subst (λ (b : Book). AreOf p b c.root_words-words.result.now) (sym book_then) c.root_words-words.ensures) c.requires.root_word c.requires.rests.0 c.requires.rests.1
 
-  grip : Grips c.lock_root_word.new.seat.view c.lock_root_word.new.seat.book c.in-Some.words.now c.in-Some-lock_root_word.free p named
-  grip = root_word_grips c.lock_root_word.new.seat.view c.lock_root_word.new.seat.book c.in-Some.words.now c.in-Some-lock_root_word.free named held
+  grip : Grips c.lock_root_word.new.seat.view c.lock_root_word.new.seat.book c.root_words-words.result.now c.in-Some-lock_root_word.free p named
+  grip = root_word_grips c.lock_root_word.new.seat.view c.lock_root_word.new.seat.book c.root_words-words.result.now c.in-Some-lock_root_word.free named held
 
 -- THE NODE is locked, too
 module _ (g : Over) (c : In-Some-reclaim g) where
@@ -50,8 +50,8 @@ module _ (g : Over) (c : In-Some-reclaim g) where
   abbrev r : Spot
   r = back.spot
 
-  still : HoldsRootWord c.get.new.seat.view c.get.new.seat.book c.in-Some.words.now c.in-Some-lock_root_word.free (named g first)
-  still = subst (λ z. HoldsRootWord z.view z.book c.in-Some.words.now c.in-Some-lock_root_word.free (named g first)) (sym c.get.ensures.seat.same) (held g first)
+  still : HoldsRootWord c.get.new.seat.view c.get.new.seat.book c.root_words-words.result.now c.in-Some-lock_root_word.free (named g first)
+  still = subst (λ z. HoldsRootWord z.view z.book c.root_words-words.result.now c.in-Some-lock_root_word.free (named g first)) (sym c.get.ensures.seat.same) (held g first)
 
   back_book : c.reclaim.new.seat.book ≡ c.args.seat.now.book
   back_book = c.in-Some-reclaim.ensures.told.0 ∙ (ap (λ z. z.book) c.get.ensures.seat.same ∙ c.lock_root_word.ensures.seat.0)
@@ -61,11 +61,11 @@ module _ (g : Over) (c : In-Some-reclaim g) where
 
   -- the seat holds both, with these drafts
   abbrev Hold2 : Seen → Book → Content → Content → Type 0
-  Hold2 v b dr dp = Pair v b c.in-Some-words_at.others.now c.in-Some.words.now c.in-Some-reclaim.back c.in-Some-lock_root_word.free r p dr dp
+  Hold2 v b dr dp = Pair v b c.in-Some.others.now c.root_words-words.result.now c.in-Some-reclaim.back c.in-Some-lock_root_word.free r p dr dp
 
   both : Hold2 c.reclaim.new.seat.view c.reclaim.new.seat.book back.content (named g first)
-  both = pair_with_root_word c.get.new.seat.view c.reclaim.new.seat.view c.get.new.seat.book c.reclaim.new.seat.book c.in-Some-words_at.others.now c.in-Some.words.now c.in-Some-reclaim.back c.in-Some-lock_root_word.free c.args.spare back (named g first) c.in-Some-reclaim.ensures.told.0 still
-      (subst (λ z. AreNamed z c.args.spare c.in-Some-words_at.others.now) (sym (back_book ∙ c.requires.book)) c.in-Some-words_at.ensures)
+  both = pair_with_root_word c.get.new.seat.view c.reclaim.new.seat.view c.get.new.seat.book c.reclaim.new.seat.book c.in-Some.others.now c.root_words-words.result.now c.in-Some-reclaim.back c.in-Some-lock_root_word.free c.args.spare back (named g first) c.in-Some-reclaim.ensures.told.0 still
+      (subst (λ z. AreNamed z c.args.spare c.in-Some.others.now) (sym (back_book ∙ c.requires.book)) c.in-Some.ensures)
 
   own_then : c.reclaim.new.seat.view.client.own ≡ detached r ∷ root_word (named g first) ∷ []
   own_then = back.own ∙ ap (λ (os : List Own). detached r ∷ os) still.own
@@ -119,7 +119,7 @@ module _ (g : Over) (c : After-set g) where
       let bytes = c.bytes_of-bytes in
       let empty = empty_again q (r g held_of) 0 8 bytes.result bytes.ensures.long bytes.ensures.is (omega arith) asks.0 asks.1 (omega arith) (omega arith) c.form_below-kind.result (form_is g held_of) cr (subst (λ z. Encodes z (empty_node c.form_below-kind.result (take 0 bytes.result))) (sym same_draft) c.lay.ensures.is) in
       let zero : c.get.result ≡ 0 = search rules in
-      let zero_is : at word_was 0 ≡ 0 = ap (λ (z : List ℕ). at z 0) (sym (grip_draft c.lock_root_word.new.seat.view c.lock_root_word.new.seat.book c.in-Some.words.now c.in-Some-lock_root_word.free p (named g k) (grip g k))) ∙ (sym c.get.ensures.is ∙ zero) in
+      let zero_is : at word_was 0 ≡ 0 = ap (λ (z : List ℕ). at z 0) (sym (grip_draft c.lock_root_word.new.seat.view c.lock_root_word.new.seat.book c.root_words-words.result.now c.in-Some-lock_root_word.free p (named g k) (grip g k))) ∙ (sym c.get.ensures.is ∙ zero) in
       let l = h.long in
       let was = second_draft _ _ _ _ _ _ _ _ _ _ (filled g made) in
       let is = c.set.ensures.is ∙ ap (λ (z : List ℕ). set z 0 c.args.spare) was in
@@ -136,14 +136,14 @@ module _ (g : Over) (c : After-unlock_again g) where
 
   linked : (e : View) × (c.unlock_again.new.seat.view ≡ seat_view e c.set.new.seat.view.places c.set.new.seat.view.reads (hold (r g (held_of g led)).number (c.in-Some-reclaim.back + 2) (dr g led) ∷ []) c.set.new.seat.view.room) × LinksAgain g.A.Asks.ask (cr g led) c.set.new.seat.view.client 0 (dp g led) e
   linked =
-      let at_p = (first_word p c.set.new.seat.book c.in-Some.words.now (wrote g led).are_p c.index-words-0.result c.index-words-0.result (sym c.index-words-0.is)).0 in
+      let at_p = (first_word p c.set.new.seat.book c.root_words-words.result.now (wrote g led).are_p c.index-words-0.result c.index-words-0.result (sym c.index-words-0.is)).0 in
       pair_freed _ _ _ _ _ _ _ _ _ _ (wrote g led) c.index-words-0.result.key at_p (LinksAgain g.A.Asks.ask (cr g led)) c.unlock_again.new.seat.view (c.in-Some-lock_root_word.free + 4) c.unlock_again.ensures.told
 
-  alone : Grips c.unlock_again.new.seat.view c.unlock_again.new.seat.book c.in-Some-words_at.others.now c.in-Some-reclaim.back (place_at (r g (held_of g led))) (dr g led)
+  alone : Grips c.unlock_again.new.seat.view c.unlock_again.new.seat.book c.in-Some.others.now c.in-Some-reclaim.back (place_at (r g (held_of g led))) (dr g led)
   alone = record {
     holds = ap (λ (k : Seen). k.holds) linked.1;
     placed = subst (λ (ps : List Place). IsIn (place_at (r g (held_of g led))) ps) (sym (ap (λ (k : Seen). k.places) linked.1)) (wrote g led).placed_x;
-    are = subst (λ k. AreOf (place_at (r g (held_of g led))) k c.in-Some-words_at.others.now) (sym c.unlock_again.ensures.seat.0) (wrote g led).are_x;
+    are = subst (λ k. AreOf (place_at (r g (held_of g led))) k c.in-Some.others.now) (sym c.unlock_again.ensures.seat.0) (wrote g led).are_x;
   }
 
 pub get-requires : goal.get-requires
@@ -153,8 +153,8 @@ get-requires g c =
     let b = c.lock_root_word.new.seat.book in
     let h = c.in-Some-lock_root_word.ensures.locked in
     let l = h.long in
-    let e = ap (λ (z : List ℕ). length z) (grip_draft v b c.in-Some.words.now c.in-Some-lock_root_word.free p (named g k) (grip g k)) in
-    (omega arith, (grip_holds v b c.in-Some.words.now c.in-Some-lock_root_word.free p (named g k) (grip g k) l, omega (arith, e, l)))
+    let e = ap (λ (z : List ℕ). length z) (grip_draft v b c.root_words-words.result.now c.in-Some-lock_root_word.free p (named g k) (grip g k)) in
+    (omega arith, (grip_holds v b c.root_words-words.result.now c.in-Some-lock_root_word.free p (named g k) (grip g k) l, omega (arith, e, l)))
 
 pub lay-requires-clause-may : goal.lay-requires-clause-may
 lay-requires-clause-may g c =
@@ -176,7 +176,7 @@ set-requires g c =
 pub unlock_again-requires-clause-frees : goal.unlock_again-requires-clause-frees
 unlock_again-requires-clause-frees g c =
     let k = (goal.at.unlock_again-requires-clause-frees g c).After-set in
-    let at_p = (first_word p c.set.new.seat.book c.in-Some.words.now (wrote g k).are_p c.index-words-0.result c.index-words-0.result (sym c.index-words-0.is)).0 in
+    let at_p = (first_word p c.set.new.seat.book c.root_words-words.result.now (wrote g k).are_p c.index-words-0.result c.index-words-0.result (sym c.index-words-0.is)).0 in
     pair_frees _ _ _ _ _ _ _ _ _ _ (wrote g k) c.index-words-0.result.key at_p (LinksAgain g.A.Asks.ask (cr g k)) c.set.new.seat.id (c.in-Some-lock_root_word.free + 4) (links g k)
 
 pub unlock-requires-clause-frees : goal.unlock-requires-clause-frees
@@ -186,10 +186,10 @@ unlock-requires-clause-frees g c =
     let l = linked g u in
     let x = r g (held_of g k) in
     let even = (back g (held_of g k)).even in
-    let at_r = (first_word (place_at x) c.unlock_again.new.seat.book c.in-Some-words_at.others.now (alone g u).are c.index-others-0.result c.index-others-0.result (sym c.index-others-0.is)).0 in
+    let at_r = (first_word (place_at x) c.unlock_again.new.seat.book c.in-Some.others.now (alone g u).are c.index-others-0.result c.index-others-0.result (sym c.index-others-0.is)).0 in
     let own = ap (λ (v : Seen). v.client.own) l.1 ∙ (ap (λ (v : View). v.own) l.2 ∙ ap (left_again g.A.Asks.ask (cr g k)) (all_own g k)) in
     let stays = node_stays c.unlock_again.new.seat.id c.unlock_again.new.seat.view.client (again g.A.Asks.ask x) (cr g k) [] own tt (c.in-Some-reclaim.back + 4) (c.in-Some-reclaim.back / 4 + 1) (omega (arith, even)) (dr g k) (sym (same_draft g k)) in
-    grip_frees c.unlock_again.new.seat.view c.unlock_again.new.seat.book c.in-Some-words_at.others.now c.in-Some-reclaim.back (place_at x) (dr g k) (alone g u) c.index-others-0.result.key at_r StaysSame c.unlock_again.new.seat.id (c.in-Some-reclaim.back + 4) stays
+    grip_frees c.unlock_again.new.seat.view c.unlock_again.new.seat.book c.in-Some.others.now c.in-Some-reclaim.back (place_at x) (dr g k) (alone g u) c.index-others-0.result.key at_r StaysSame c.unlock_again.new.seat.id (c.in-Some-reclaim.back + 4) stays
 
 pub returns-clause-seat : goal.returns-clause-seat
 returns-clause-seat g c =
@@ -211,8 +211,8 @@ returns-clause-grown g c =
     let sr = c.set.ensures.seat.others in
     let fr = c.lay.ensures.seat.others in
     let alike = (back g b).alike in
-    let at_r = (first_word (place_at x) c.unlock_again.new.seat.book c.in-Some-words_at.others.now (alone g u).are c.index-others-0.result c.index-others-0.result (sym c.index-others-0.is)).0 in
-    let o = grip_freed c.unlock_again.new.seat.view c.unlock_again.new.seat.book c.in-Some-words_at.others.now c.in-Some-reclaim.back (place_at x) (dr g k) (alone g u) c.index-others-0.result.key at_r StaysSame c.unlock.new.seat.view (c.in-Some-reclaim.back + 4) c.unlock.ensures.told in
+    let at_r = (first_word (place_at x) c.unlock_again.new.seat.book c.in-Some.others.now (alone g u).are c.index-others-0.result c.index-others-0.result (sym c.index-others-0.is)).0 in
+    let o = grip_freed c.unlock_again.new.seat.view c.unlock_again.new.seat.book c.in-Some.others.now c.in-Some-reclaim.back (place_at x) (dr g k) (alone g u) c.index-others-0.result.key at_r StaysSame c.unlock.new.seat.view (c.in-Some-reclaim.back + 4) c.unlock.ensures.told in
     let places = ap (λ s. s.view.places) sr ∙ (ap (λ s. s.view.places) fr ∙ (alike.places ∙ (ap (λ z. z.view.places) same ∙ h.alike.places))) in
     let met = ap (λ s. s.view.client.met) sr ∙ (ap (λ s. s.view.client.met) fr ∙ (alike.met ∙ (ap (λ z. z.view.client.met) same ∙ h.alike.met))) in
     let seen = ap (λ s. s.view.client.seen) sr ∙ (ap (λ s. s.view.client.seen) fr ∙ ((back g b).seen ∙ (ap (λ z. z.view.client.seen) same ∙ ap (λ (z : View). z.seen) h.client))) in
@@ -226,6 +226,6 @@ returns-clause-room g c =
     let l = linked g u in
     let x = r g b in
     let h = c.in-Some-lock_root_word.ensures.locked in
-    let at_r = (first_word (place_at x) c.unlock_again.new.seat.book c.in-Some-words_at.others.now (alone g u).are c.index-others-0.result c.index-others-0.result (sym c.index-others-0.is)).0 in
-    let o = grip_freed c.unlock_again.new.seat.view c.unlock_again.new.seat.book c.in-Some-words_at.others.now c.in-Some-reclaim.back (place_at x) (dr g k) (alone g u) c.index-others-0.result.key at_r StaysSame c.unlock.new.seat.view (c.in-Some-reclaim.back + 4) c.unlock.ensures.told in
+    let at_r = (first_word (place_at x) c.unlock_again.new.seat.book c.in-Some.others.now (alone g u).are c.index-others-0.result c.index-others-0.result (sym c.index-others-0.is)).0 in
+    let o = grip_freed c.unlock_again.new.seat.view c.unlock_again.new.seat.book c.in-Some.others.now c.in-Some-reclaim.back (place_at x) (dr g k) (alone g u) c.index-others-0.result.key at_r StaysSame c.unlock.new.seat.view (c.in-Some-reclaim.back + 4) c.unlock.ensures.told in
     ap (λ (v : Seen). v.room) o.1 ∙ (ap (λ (v : Seen). v.room) l.1 ∙ (ap (λ s. s.view.room) c.set.ensures.seat.others ∙ (ap (λ s. s.view.room) c.lay.ensures.seat.others ∙ ((back g b).alike.room ∙ (ap (λ z. z.view.room) c.get.ensures.seat.same ∙ h.alike.room)))))

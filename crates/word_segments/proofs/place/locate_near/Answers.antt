@@ -1,5 +1,5 @@
-use Rattle.std.proofs.Common.{arith, ◌+◌, ◌-◌, ◌^◌}
-use Rattle.word_segments.proofs.Sizes.{IsTop, is_top, least_number, within_near_shifted, group_few}
+use Rattle.std.proofs.Common.{arith, ◌+◌}
+use Rattle.word_segments.proofs.Sizes.{is_top, least_number, within_near_shifted, group_few}
 use Rattle.word_segments.proofs.place.locate_near.Goals as goal
 
 pub overflow_sub-result : goal.overflow_sub-result
