@@ -78,11 +78,16 @@ fn turned(alloc: Global, owners: &Owners, handle: &mut Handle, owner: u64) -> Op
     }
 }
 
+// The slot that is used as the n-th of the first segments. Each has 128 slots there, and numbers for 16,384.
+fn slot_of(n: u64) -> u64 {
+    (n / 128).wrapping_mul(16_384).wrapping_add(n % 128)
+}
+
 // Passes owners through slots that are used three times each: how many of them got the ticket that they should.
 fn right(alloc: Global, owners: &Owners, count: u64) -> Option<u64> {
     let mut handle = owners.handle(alloc).ok()??;
     for n in 0..count {
-        let expected = (n % 3).wrapping_mul(HALF).wrapping_add(n / 3);
+        let expected = (n % 3).wrapping_mul(HALF).wrapping_add(slot_of(n / 3));
         if turned(alloc, owners, &mut handle, n) != Some(expected) {
             return Some(n);
         }
