@@ -1,7 +1,7 @@
 //! The directory.
 ghost use Rattle.std.specs.Prelude.{◌≡◌, ℕ, ◌+◌, ◌-◌, ◌*◌, ◌<◌, ◌≤◌, ◌^◌, [], ◌∷◌, length, IfOk, IfErr, IfSome};
 ghost use Rattle.boxcar.specs.Table.{span, first, others, Tagged};
-ghost use Rattle.word_book.specs.Book.{name};
+ghost use Rattle.word_book.specs.Book.{Book, name};
 ghost use Rattle.word_segments.specs.Segments.{size, Directed, directed_coded, first_key, AreWords, IsSegment, numbers, directed_by};
 
 use crate::place::{KEYS, SHELVES, shelve, size_of, span_of};
@@ -132,16 +132,13 @@ impl<V, P: Rule<V>> Segments<V, P> {
         })
     }
 
-    // The segment with a number, if it is in the directory.
+    // The words of a segment in the directory itself, from a place on.
     #[inline(always)]
-    fn segment(&self, number: u64) -> Option<&Vec<Word<V, P>>>
-        ensures segment { IfSome result (λ words. IsSegment self.now number words.now.items) }
-        ensures small { IfSome result (λ _. number < 2 ^ 44) }
+    fn near(&self, number: u64, at: usize) -> Option<&[Word<V, P>]>
+        requires { number < 384 }
+        ensures { IfSome result (λ words. AreWords (first_key self.now number + at) self.now.book words.now) }
     {
-        if number < 384 {
-            return self.near[number as usize].get();
-        }
-        self.far(number)
+        from_place(self.near[number as usize].get()?, at)
     }
 
     // The segment with a number on a shelf, if it is there.
@@ -158,6 +155,15 @@ impl<V, P: Rule<V>> Segments<V, P> {
         slots[slot].get()
     }
 
+    // The words of a segment on a shelf, from a place on.
+    #[inline(always)]
+    fn beyond(&self, number: u64, at: usize) -> Option<&[Word<V, P>]>
+        ensures words { IfSome result (λ words. AreWords (first_key self.now number + at) self.now.book words.now) }
+        ensures small { IfSome result (λ _. number < 2 ^ 44) }
+    {
+        from_place(self.far(number)?, at)
+    }
+
     // The words of a key's segment from the key's own on, if that is in the directory and has it. A key before the first one is in a
     // segment past the limit, by a difference that wraps around.
     #[inline(always)]
@@ -165,12 +171,12 @@ impl<V, P: Rule<V>> Segments<V, P> {
         ensures { IfSome result (λ words. AreWords key self.now.book words.now) }
     {
         let place = key.wrapping_sub(self.base);
-        let segment = self.segment(place / KEYS)?;
+        let number = place / KEYS;
         let at = (place % KEYS) as usize;
-        if at > segment.len() {
-            return None;
+        if number < 384 {
+            return self.near(number, at);
         }
-        Some(&segment[at..segment.len()])
+        self.beyond(number, at)
     }
 
     /// The word with a key, if its segment is in the directory and has it.
@@ -235,6 +241,18 @@ impl<V, P: Rule<V>> Segments<V, P> {
             Err(words) => Err(words),
         }
     }
+}
+
+// The words of a segment from a place on, if it has that many.
+#[inline(always)]
+fn from_place<V, P: Rule<V>>(segment: &Vec<Word<V, P>>, at: usize) -> Option<&[Word<V, P>]>
+    ensures { (k : ℕ) (b : Book) → AreWords k b segment.now.items
+        → IfSome result (λ words. AreWords (k + at) b words.now) }
+{
+    if at > segment.len() {
+        return None;
+    }
+    Some(&segment[at..segment.len()])
 }
 
 // Empty slots, tagged by the numbers from one on.
