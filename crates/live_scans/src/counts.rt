@@ -9,7 +9,8 @@ ghost use Rattle.live_scans.specs.inner.Steps.{Counts};
 
 pub mod laws;
 
-use crate::page::{Bound, key_after, read_on};
+use crate::bound::{Bound, key_after};
+use crate::page::read_on;
 use crate::position::Position;
 use crate::scans::ceiling;
 use crate::seek::start;

@@ -1,23 +1,22 @@
-//! The path of a reader from a node to a leaf, upwards or downwards.
-ghost use Rattle.std.specs.Prelude.{◌≡◌, true, false, IfSome};
+//! The path of a reader: where it begins, and downwards from a node to a leaf.
+ghost use Rattle.std.specs.Prelude.{◌≡◌, false, IfSome};
 ghost use Rattle.live_scans.specs.inner.Moments.{SeesMore};
 ghost use Rattle.live_reads.specs.Paths.{KnowsRootWord, Keeps};
 ghost use Rattle.live_scans.specs.inner.Stops.{IsPosition, Starts, Reaches};
 
 use crate::gaps::{around, gap};
 use crate::keys::upper;
-use crate::next::{Turn, next_turn};
 use crate::position::Position;
 use live_growth::map::TRIES;
 use live_law::law::Asks;
 use live_reads::path::{Nodes, Seat, root, root_begun};
 use live_reads::prefix_match::{Next, enter, step};
 
-/// Where a reader's path ends: past keys that are absent, up to this one, or at a leaf, with the first of its keys that isn't passed.
+/// Where a reader's path downwards ends: past keys that are absent, up to this one, or at a leaf, which has this name.
 #[derive(Clone, Copy, Debug, PartialEq, Eq)]
 pub enum Reach {
     Past(u64),
-    Leaf(u64, u64),
+    Leaf(u64),
 }
 
 /// Where a reader's path ends, and the node above.
@@ -27,43 +26,8 @@ pub struct Sought {
     pub reach: Reach,
 }
 
-// The end of a reader's path upwards from a node on. `None` where a writer came in between.
-fn seek_up<A: Asks>(nodes: &Nodes, position: Position, seat: &mut Seat) -> Option<Sought>
-    requires book { seat.old.book ≡ nodes.now }
-    requires asks { A.ask.caller ≡ seat.old.id }
-    requires position { IsPosition seat.old.view position }
-    ensures book { seat.new.book ≡ seat.old.book }
-    ensures id { seat.new.id ≡ seat.old.id }
-    ensures keeps { Keeps seat.old.view seat.new.view }
-    ensures seen { SeesMore seat.new.view.client.seen seat.old.id seat.old.view.client.seen }
-    ensures position { IfSome result (λ s. IsPosition seat.new.view s.position) }
-    ensures reaches { IfSome result (λ s. Reaches true seat.old.id seat.old.view seat.new.view
-        position.key s.reach) }
-{
-    let mut at = position;
-    loop {
-        match next_turn::<A>(nodes, at, seat)? {
-            Turn::Past(last) => {
-                return Some(Sought {
-                    position: at,
-                    reach: Reach::Past(last),
-                });
-            }
-            Turn::Goes(child) => {
-                if child.height == 1 {
-                    return Some(Sought {
-                        position: at,
-                        reach: Reach::Leaf(child.name, child.key),
-                    });
-                }
-                at = child;
-            }
-        }
-    }
-}
-
-// The end of a reader's path downwards from a node on, by the position's key. `None` where a writer came in between.
-fn seek_down<A: Asks>(nodes: &Nodes, position: Position, seat: &mut Seat) -> Option<Sought>
+/// The end of a reader's path downwards from a node on, by the position's key. `None` where a writer came in between.
+pub fn seek_down<A: Asks>(nodes: &Nodes, position: Position, seat: &mut Seat) -> Option<Sought>
     requires book { seat.old.book ≡ nodes.now }
     requires asks { (A.ask.key ≡ position.key) × (A.ask.caller ≡ seat.old.id) × (A.reads ≡ false) }
     requires position { IsPosition seat.old.view position }
@@ -72,7 +36,7 @@ fn seek_down<A: Asks>(nodes: &Nodes, position: Position, seat: &mut Seat) -> Opt
     ensures keeps { Keeps seat.old.view seat.new.view }
     ensures seen { SeesMore seat.new.view.client.seen seat.old.id seat.old.view.client.seen }
     ensures position { IfSome result (λ s. IsPosition seat.new.view s.position) }
-    ensures reaches { IfSome result (λ s. Reaches false seat.old.id seat.old.view seat.new.view
+    ensures reaches { IfSome result (λ s. Reaches seat.old.id seat.old.view seat.new.view
         position.key s.reach) }
 {
     let key = position.key;
@@ -92,7 +56,7 @@ fn seek_down<A: Asks>(nodes: &Nodes, position: Position, seat: &mut Seat) -> Opt
                 if lower == 1 {
                     return Some(Sought {
                         position: at,
-                        reach: Reach::Leaf(below, key),
+                        reach: Reach::Leaf(below),
                     });
                 }
                 at = Position {
@@ -111,30 +75,6 @@ fn seek_down<A: Asks>(nodes: &Nodes, position: Position, seat: &mut Seat) -> Opt
             }
         }
     }
-}
-
-/// The end of a reader's path from a node on, upwards (`true`) or downwards. `None` where a writer came in between.
-pub fn seek_on<A: Asks>(
-    nodes: &Nodes,
-    position: Position,
-    up: bool,
-    seat: &mut Seat,
-) -> Option<Sought>
-    requires book { seat.old.book ≡ nodes.now }
-    requires asks { (A.ask.key ≡ position.key) × (A.ask.caller ≡ seat.old.id) × (A.reads ≡ false) }
-    requires position { IsPosition seat.old.view position }
-    ensures book { seat.new.book ≡ seat.old.book }
-    ensures id { seat.new.id ≡ seat.old.id }
-    ensures keeps { Keeps seat.old.view seat.new.view }
-    ensures seen { SeesMore seat.new.view.client.seen seat.old.id seat.old.view.client.seen }
-    ensures position { IfSome result (λ s. IsPosition seat.new.view s.position) }
-    ensures reaches { IfSome result (λ s. Reaches up seat.old.id seat.old.view seat.new.view
-        position.key s.reach) }
-{
-    if up {
-        return seek_up::<A>(nodes, position, seat);
-    }
-    seek_down::<A>(nodes, position, seat)
 }
 
 /// A node on the path of a key: this one, if the key begins like it, or the root. `None` where a writer came in between.

@@ -1,9 +1,10 @@
-use Rattle.std.proofs.Common.{◌≡◌, ◌⊎◌, ◌%◌, ◌≤◌, true, []}
+use Rattle.std.proofs.Common.{◌≡◌, ◌⊎◌, ◌%◌, ◌<◌, ◌≤◌, take, length, true, []}
+use Rattle.live_layout.specs.Page.{pairs_of}
 use Rattle.live_scans.specs.inner.Moments.{SeesMore}
 use Rattle.live_reads.specs.Paths.{Keeps}
 use Rattle.live_scans.specs.Scans.{HasRead}
 use Rattle.live_scans.specs.inner.Stops.{IsPosition}
-use Rattle.live_scans.proofs.seek.seek_up.Given as goal
+use Rattle.live_scans.proofs.page.step_up.Given as goal
 
 abbrev pub invariant-loop-last : goal.invariant-loop-last
 invariant-loop-last g l = record {
@@ -13,8 +14,11 @@ invariant-loop-last g l = record {
   seen : SeesMore l.seat.view.client.seen l.fn.seat.id l.fn.seat.view.client.seen;
   position : IsPosition l.seat.view l.at;
   low : l.fn.position.key ≤ l.at.key;
+  within : l.at.key ≤ l.request.limit;
+  start : l.request.start < length l.buffer;
   seam : (l.at.key % 256 ≡ 0) ⊎ (l.fn.position.key ≡ l.at.key);
   read : HasRead true l.fn.seat.view.client.seen l.seat.view.client.seen l.fn.position.key l.at.key [];
+  before : take l.request.start (pairs_of g.P.RangeEntry.pair l.buffer) ≡ take l.request.start (pairs_of g.P.RangeEntry.pair l.fn.buffer);
 }
 
 abbrev pub decreases-loop-last : goal.decreases-loop-last
