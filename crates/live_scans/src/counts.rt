@@ -11,7 +11,7 @@ pub mod laws;
 
 use crate::bound::{Bound, key_after};
 use crate::page::read_on;
-use crate::position::Position;
+use crate::position::{Position, Trail};
 use crate::scans::ceiling;
 use crate::seek::start;
 use live_growth::map::{Busy, Congee, Guard};
@@ -36,7 +36,10 @@ fn count_all(nodes: &Nodes, position: Position, seat: &mut Seat) -> Option<u128>
     };
     let mut count = 0u128;
     let mut from = 0u64;
-    let mut at = Some(position);
+    let mut at = Some(Trail {
+        low: position,
+        high: position,
+    });
     loop {
         let stepped = read_on(nodes, at, from, bound, &mut leaf, 0, seat)?;
         let step = stepped.step;
@@ -45,7 +48,7 @@ fn count_all(nodes: &Nodes, position: Position, seat: &mut Seat) -> Option<u128>
             return Some(count);
         }
         from = key_after(step.last, bound);
-        at = Some(stepped.position);
+        at = Some(stepped.trail);
     }
 }
 

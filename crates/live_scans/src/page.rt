@@ -5,12 +5,12 @@ ghost use Rattle.live_layout.specs.Page.{pairs_of};
 ghost use Rattle.live_reads.specs.Paths.{KnowsRootWord, Keeps};
 ghost use Rattle.live_scans.specs.inner.Moments.{SeesMore};
 ghost use Rattle.live_scans.specs.inner.Steps.{IsStep, IsPage};
-ghost use Rattle.live_scans.specs.inner.Stops.{IsPosition};
+ghost use Rattle.live_scans.specs.inner.Stops.{IsPosition, IsTrail};
 
 use crate::bound::{Bound, Request, Step, key_after, nearer, part_of};
 use crate::leaf::leaf_page;
 use crate::next::{Visit, visit_node};
-use crate::position::Position;
+use crate::position::{Position, Trail};
 use crate::seek::{Reach, begin, seek_down};
 use live_growth::map::TRIES;
 use live_law::law::Asks;
@@ -18,26 +18,26 @@ use live_layout::page::RangeEntry;
 use live_reads::path::{Nodes, Seat};
 use std::marker::Brand;
 
-/// A step, and the node above where it has come to.
+/// A step, and the nodes above where it has come to.
 #[derive(Clone, Copy, Debug, PartialEq, Eq)]
 pub struct Stepped {
     pub step: Step,
-    pub position: Position,
+    pub trail: Trail,
 }
 
 // One step upwards from a node on: a leaf is written into the buffer, or keys are passed that are absent. `None` where a writer came
 // in between.
 fn step_up<A: Asks, P: RangeEntry>(
     nodes: &Nodes,
-    position: Position,
+    trail: Trail,
     request: Request,
     buffer: &mut [P],
     seat: &mut Seat,
 ) -> Option<Stepped>
     requires book { seat.old.book ≡ nodes.now }
     requires asks { A.ask.caller ≡ seat.old.id }
-    requires position { IsPosition seat.old.view position }
-    requires order { position.key ≤ request.limit }
+    requires trail { IsTrail seat.old.view trail }
+    requires order { trail.low.key ≤ request.limit }
     requires start { request.start < length buffer.old }
     ensures before { take request.start (pairs_of P.pair buffer.new)
         ≡ take request.start (pairs_of P.pair buffer.old) }
@@ -45,24 +45,29 @@ fn step_up<A: Asks, P: RangeEntry>(
     ensures id { seat.new.id ≡ seat.old.id }
     ensures keeps { Keeps seat.old.view seat.new.view }
     ensures seen { SeesMore seat.new.view.client.seen seat.old.id seat.old.view.client.seen }
-    ensures position { IfSome result (λ s. IsPosition seat.new.view s.position) }
+    ensures trail { IfSome result (λ s. IsTrail seat.new.view s.trail) }
     ensures step { IfSome result (λ s. IsStep true seat.old.id seat.old.view seat.new.view
-        position.key request.limit request.start (pairs_of P.pair buffer.new) s.step.count s.step.last) }
+        trail.low.key request.limit request.start (pairs_of P.pair buffer.new) s.step.count s.step.last) }
 {
-    let mut at = position;
+    let mut at = trail;
     loop {
-        match visit_node::<A, P>(nodes, at, request, buffer, seat)? {
+        match visit_node::<A, P>(nodes, at.low, request, buffer, seat)? {
             Visit::Past(last) => {
                 return Some(Stepped {
                     step: Step {
                         count: request.start,
                         last: last.min(request.limit),
                     },
-                    position: at,
+                    trail: at,
                 });
             }
-            Visit::Read(step) => return Some(Stepped { step, position: at }),
-            Visit::Goes(node) => at = node,
+            Visit::Read(step) => return Some(Stepped { step, trail: at }),
+            Visit::Goes(node) => {
+                at = Trail {
+                    low: node,
+                    high: at.low,
+                };
+            }
         }
     }
 }
@@ -88,20 +93,23 @@ fn step_down<A: Asks, P: RangeEntry>(
     ensures id { seat.new.id ≡ seat.old.id }
     ensures keeps { Keeps seat.old.view seat.new.view }
     ensures seen { SeesMore seat.new.view.client.seen seat.old.id seat.old.view.client.seen }
-    ensures position { IfSome result (λ s. IsPosition seat.new.view s.position) }
+    ensures trail { IfSome result (λ s. IsTrail seat.new.view s.trail) }
     ensures step { IfSome result (λ s. IsStep false seat.old.id seat.old.view seat.new.view
         at.key limit start (pairs_of P.pair buffer.new) s.step.count s.step.last) }
 {
     let bound = Bound { up: false, limit };
     let sought = seek_down::<A>(nodes, at, seat)?;
-    let position = sought.position;
+    let trail = Trail {
+        low: sought.position,
+        high: sought.position,
+    };
     match sought.reach {
         Reach::Past(last) => Some(Stepped {
             step: Step {
                 count: start,
                 last: nearer(last, bound),
             },
-            position,
+            trail,
         }),
         Reach::Leaf(name) => {
             let part = part_of(at.key, bound);
@@ -111,7 +119,7 @@ fn step_down<A: Asks, P: RangeEntry>(
                     count: filled.count,
                     last: part.base + filled.reached as u64,
                 },
-                position,
+                trail,
             })
         }
     }
@@ -121,7 +129,7 @@ fn step_down<A: Asks, P: RangeEntry>(
 // came in between.
 fn try_step<P: RangeEntry>(
     nodes: &Nodes,
-    position: Option<Position>,
+    trail: Option<Trail>,
     key: u64,
     bound: Bound,
     buffer: &mut [P],
@@ -130,7 +138,7 @@ fn try_step<P: RangeEntry>(
 ) -> Option<Stepped>
     requires book { seat.old.book ≡ nodes.now }
     requires root_word { KnowsRootWord seat.old.view }
-    requires position { IfSome position (IsPosition seat.old.view) }
+    requires trail { IfSome trail (IsTrail seat.old.view) }
     requires order { IsFrom bound.up key bound.limit }
     requires start { start < length buffer.old }
     ensures before { take start (pairs_of P.pair buffer.new)
@@ -139,11 +147,11 @@ fn try_step<P: RangeEntry>(
     ensures id { seat.new.id ≡ seat.old.id }
     ensures keeps { Keeps seat.old.view seat.new.view }
     ensures seen { SeesMore seat.new.view.client.seen seat.old.id seat.old.view.client.seen }
-    ensures position { IfSome result (λ s. IsPosition seat.new.view s.position) }
+    ensures trail { IfSome result (λ s. IsTrail seat.new.view s.trail) }
     ensures step { IfSome result (λ s. IsStep bound.up seat.old.id seat.old.view seat.new.view
         key bound.limit start (pairs_of P.pair buffer.new) s.step.count s.step.last) }
 {
-    let at = begin(nodes, position, key, seat)?;
+    let at = begin(nodes, trail, key, seat)?;
     if bound.up {
         let request = Request {
             limit: bound.limit,
@@ -151,14 +159,14 @@ fn try_step<P: RangeEntry>(
         };
         return step_up::<Brand, P>(nodes, at, request, buffer, seat);
     }
-    step_down::<Brand, P>(nodes, at, bound.limit, buffer, start, seat)
+    step_down::<Brand, P>(nodes, at.low, bound.limit, buffer, start, seat)
 }
 
 /// One step from a key on, in some tries, from the root on after the first: a part of a leaf is written into the buffer, or keys are
 /// passed that are absent. `None` where too many writers came in between.
 pub fn read_on<P: RangeEntry>(
     nodes: &Nodes,
-    position: Option<Position>,
+    trail: Option<Trail>,
     key: u64,
     bound: Bound,
     buffer: &mut [P],
@@ -167,7 +175,7 @@ pub fn read_on<P: RangeEntry>(
 ) -> Option<Stepped>
     requires book { seat.old.book ≡ nodes.now }
     requires root_word { KnowsRootWord seat.old.view }
-    requires position { IfSome position (IsPosition seat.old.view) }
+    requires trail { IfSome trail (IsTrail seat.old.view) }
     requires order { IsFrom bound.up key bound.limit }
     requires start { start < length buffer.old }
     ensures before { take start (pairs_of P.pair buffer.new)
@@ -176,11 +184,11 @@ pub fn read_on<P: RangeEntry>(
     ensures id { seat.new.id ≡ seat.old.id }
     ensures keeps { Keeps seat.old.view seat.new.view }
     ensures seen { SeesMore seat.new.view.client.seen seat.old.id seat.old.view.client.seen }
-    ensures position { IfSome result (λ s. IsPosition seat.new.view s.position) }
+    ensures trail { IfSome result (λ s. IsTrail seat.new.view s.trail) }
     ensures step { IfSome result (λ s. IsStep bound.up seat.old.id seat.old.view seat.new.view
         key bound.limit start (pairs_of P.pair buffer.new) s.step.count s.step.last) }
 {
-    let mut at = position;
+    let mut at = trail;
     for _ in 0..TRIES {
         if let Some(stepped) = try_step(nodes, at, key, bound, buffer, start, seat) {
             return Some(stepped);
@@ -214,7 +222,10 @@ pub fn page<P: RangeEntry>(
 {
     let mut count = 0;
     let mut from = key;
-    let mut at = Some(position);
+    let mut at = Some(Trail {
+        low: position,
+        high: position,
+    });
     loop {
         let stepped = read_on(nodes, at, from, bound, buffer, count, seat)?;
         let step = stepped.step;
@@ -226,6 +237,6 @@ pub fn page<P: RangeEntry>(
         }
         count = step.count;
         from = key_after(step.last, bound);
-        at = Some(stepped.position);
+        at = Some(stepped.trail);
     }
 }

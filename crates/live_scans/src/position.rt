@@ -7,3 +7,10 @@ pub struct Position {
     pub height: usize,
     pub key: u64,
 }
+
+/// The last inner node on a reader's path, and the one that the path came from, which is above it or is the same.
+#[derive(Clone, Copy, Debug, PartialEq, Eq)]
+pub struct Trail {
+    pub low: Position,
+    pub high: Position,
+}

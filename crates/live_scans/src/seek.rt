@@ -1,12 +1,13 @@
 //! The path of a reader: where it begins, and downwards from a node to a leaf.
-ghost use Rattle.std.specs.Prelude.{◌≡◌, false, IfSome};
+ghost use Rattle.std.specs.Prelude.{◌≡◌, ◌≤◌, false, IfSome};
+ghost use Rattle.live_law.specs.Levels.{up};
 ghost use Rattle.live_scans.specs.inner.Moments.{SeesMore};
 ghost use Rattle.live_reads.specs.Paths.{KnowsRootWord, Keeps};
-ghost use Rattle.live_scans.specs.inner.Stops.{IsPosition, Starts, Reaches};
+ghost use Rattle.live_scans.specs.inner.Stops.{IsPosition, IsTrail, Starts, Reaches};
 
 use crate::gaps::{around, gap};
 use crate::keys::upper;
-use crate::position::Position;
+use crate::position::{Position, Trail};
 use live_growth::map::TRIES;
 use live_law::law::Asks;
 use live_reads::path::{Nodes, Seat, root, root_begun};
@@ -77,37 +78,49 @@ pub fn seek_down<A: Asks>(nodes: &Nodes, position: Position, seat: &mut Seat) ->
     }
 }
 
-/// A node on the path of a key: this one, if the key begins like it, or the root. `None` where a writer came in between.
-pub fn begin(
-    nodes: &Nodes,
-    position: Option<Position>,
-    key: u64,
-    seat: &mut Seat,
-) -> Option<Position>
+// This node with another key, if the key begins like it.
+fn with_key(at: Position, key: u64) -> Option<Position>
+    requires height { at.height ≤ 8 }
+    ensures with { IfSome result (λ s. (s.key ≡ key) × (s.name ≡ at.name) × (s.height ≡ at.height)
+        × (up at.height key ≡ up at.height at.key)) }
+{
+    if upper(at.key, at.height) != upper(key, at.height) {
+        return None;
+    }
+    Some(Position {
+        name: at.name,
+        height: at.height,
+        key,
+    })
+}
+
+/// The trail of a key: from the lower node of this one on, if the key begins like it, or from the upper one on, or from the root on.
+/// `None` where a writer came in between.
+pub fn begin(nodes: &Nodes, trail: Option<Trail>, key: u64, seat: &mut Seat) -> Option<Trail>
     requires book { seat.old.book ≡ nodes.now }
     requires root_word { KnowsRootWord seat.old.view }
-    requires position { IfSome position (IsPosition seat.old.view) }
+    requires trail { IfSome trail (IsTrail seat.old.view) }
     ensures book { seat.new.book ≡ seat.old.book }
     ensures id { seat.new.id ≡ seat.old.id }
     ensures keeps { Keeps seat.old.view seat.new.view }
     ensures seen { seat.new.view.client.seen ≡ seat.old.view.client.seen }
-    ensures position { IfSome result (λ s. (s.key ≡ key) × IsPosition seat.new.view s) }
+    ensures trail { IfSome result (λ t. (t.low.key ≡ key) × IsTrail seat.new.view t) }
 {
-    if let Some(at) = position {
-        if upper(at.key, at.height) == upper(key, at.height) {
-            return Some(Position {
-                name: at.name,
-                height: at.height,
-                key,
-            });
+    if let Some(Trail { low, high }) = trail {
+        if let Some(low) = with_key(low, key) {
+            return Some(Trail { low, high });
+        }
+        if let Some(low) = with_key(high, key) {
+            return Some(Trail { low, high });
         }
     }
     let name = root(nodes, key, seat)?;
-    Some(Position {
+    let low = Position {
         name,
         height: 8,
         key,
-    })
+    };
+    Some(Trail { low, high: low })
 }
 
 /// A reader begins at the root, with this key. Its entry is then the last of the history that it has seen. `None` where too many

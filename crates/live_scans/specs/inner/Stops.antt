@@ -6,12 +6,17 @@ use Rattle.live_reads.specs.Paths.{Names}
 use Rattle.live_reads.specs.Roots.{Begins}
 use Rattle.live_scans.specs.inner.Moments.{IsPassed}
 use Rattle.live_scans.specs.declared.position.Position.{Position}
+use Rattle.live_scans.specs.declared.position.Trail.{Trail}
 use Rattle.live_scans.specs.declared.seek.Reach.{Reach}
 use Rattle.live_scans.specs.declared.seek.Reach.TheVariants as reaches
 
 -- an inner node that the seat has met, and a key that begins like it
 abbrev pub IsPosition : SeatView View → Position → Type 0
 IsPosition v s = (2 ≤ s.height) × (s.height ≤ 8) × Names v s.name s.key s.height
+
+-- both of a trail's nodes
+abbrev pub IsTrail : SeatView View → Trail → Type 0
+IsTrail v t = IsPosition v t.low × IsPosition v t.high
 
 -- Downwards: past keys that are absent, or at the leaf of the key, which has that name.
 abbrev pub Reaches : ℕ → SeatView View → SeatView View → ℕ → Reach → Type 0

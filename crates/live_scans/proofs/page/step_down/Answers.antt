@@ -3,7 +3,7 @@ use Rattle.std.proofs.lemmas.List.{length-map}
 use Rattle.live_reads.proofs.Finds.{when_out}
 use Rattle.live_layout.specs.Page.{pairs_of}
 use Rattle.live_reads.specs.Paths.{Names}
-use Rattle.live_scans.specs.inner.Stops.{IsPosition, Reaches}
+use Rattle.live_scans.specs.inner.Stops.{IsTrail, Reaches}
 use Rattle.live_scans.specs.inner.Steps.{IsStep}
 use Rattle.live_scans.proofs.Composed.{more_same}
 use Rattle.live_scans.proofs.Passes.{Stays, stays_then, gap_step, leaf_step, step_since}
@@ -48,7 +48,7 @@ returns-in_err-filled-in-Leaf g c =
       id = t.1;
       keeps = t.2;
       seen = t.3;
-      position = when_out (λ s. IsPosition x s.position) c.from_residual-in_err-filled-in-Leaf.result out;
+      trail = when_out (λ s. IsTrail x s.trail) c.from_residual-in_err-filled-in-Leaf.result out;
       step = when_out (λ s. IsStep false c.args.seat.now.id c.args.seat.now.view x c.args.at.key c.args.limit c.args.start (pairs_of g.P.RangeEntry.pair c.leaf_page.new.buffer) s.step.count s.step.last) c.from_residual-in_err-filled-in-Leaf.result out;
     }
 
@@ -72,6 +72,6 @@ returns-in_ok-filled-in-Leaf g c =
       id = t.1;
       keeps = t.2;
       seen = t.3;
-      position = position_on w x c.in_ok-sought.sought.position e.keeps c.in_ok-sought.ensures.position;
+      trail = let at = position_on w x c.in_ok-sought.sought.position e.keeps c.in_ok-sought.ensures.position in (at, at);
       step = leaf_step false c.seek_down.new.seat.id id u w x c.args.at.key c.args.limit c.args.start p.base p.first p.last o.count o.reached buffer s.id s.seen q.base.0 q.begins q.within q.whole f.0 (omega (arith, n, f)) f.2 f.3 (omega arith) (λ ne. omega (arith, n, f.4 ne)) e.reads;
     }

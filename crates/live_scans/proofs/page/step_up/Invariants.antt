@@ -3,7 +3,7 @@ use Rattle.live_layout.specs.Page.{pairs_of}
 use Rattle.live_scans.specs.inner.Moments.{SeesMore}
 use Rattle.live_reads.specs.Paths.{Keeps}
 use Rattle.live_scans.specs.Scans.{HasRead}
-use Rattle.live_scans.specs.inner.Stops.{IsPosition}
+use Rattle.live_scans.specs.inner.Stops.{IsTrail}
 use Rattle.live_scans.proofs.page.step_up.Given as goal
 
 abbrev pub invariant-loop-last : goal.invariant-loop-last
@@ -12,14 +12,14 @@ invariant-loop-last g l = record {
   id : l.seat.id ≡ l.fn.seat.id;
   keeps : Keeps l.fn.seat.view l.seat.view;
   seen : SeesMore l.seat.view.client.seen l.fn.seat.id l.fn.seat.view.client.seen;
-  position : IsPosition l.seat.view l.at;
-  low : l.fn.position.key ≤ l.at.key;
-  within : l.at.key ≤ l.request.limit;
+  trail : IsTrail l.seat.view l.at;
+  low : l.fn.trail.low.key ≤ l.at.low.key;
+  within : l.at.low.key ≤ l.request.limit;
   start : l.request.start < length l.buffer;
-  seam : (l.at.key % 256 ≡ 0) ⊎ (l.fn.position.key ≡ l.at.key);
-  read : HasRead true l.fn.seat.view.client.seen l.seat.view.client.seen l.fn.position.key l.at.key [];
+  seam : (l.at.low.key % 256 ≡ 0) ⊎ (l.fn.trail.low.key ≡ l.at.low.key);
+  read : HasRead true l.fn.seat.view.client.seen l.seat.view.client.seen l.fn.trail.low.key l.at.low.key [];
   before : take l.request.start (pairs_of g.P.RangeEntry.pair l.buffer) ≡ take l.request.start (pairs_of g.P.RangeEntry.pair l.fn.buffer);
 }
 
 abbrev pub decreases-loop-last : goal.decreases-loop-last
-decreases-loop-last g l = l.at.height
+decreases-loop-last g l = l.at.low.height

@@ -19,7 +19,7 @@ returns-then-bound-clause-step g c =
     let limit = c.args.bound.limit in
     let buffer = pairs_of g.P.RangeEntry.pair c.step_up.new.buffer in
     if_some c.step_up.result (λ s its. step_since c.args.bound.up c.begin.new.seat.id id u v w c.args.key limit c.args.start s.step.count s.step.last buffer b.id (seen_equal id u v b.seen)
-    (subst (λ (z : Bool × ℕ). IsStep z.0 c.begin.new.seat.id v w z.1 limit c.args.start buffer s.step.count s.step.last) (λ i. (sym c.if-bound.true i, c.in_ok-at.ensures.position.0 i)) its)) c.step_up.ensures.step
+    (subst (λ (z : Bool × ℕ). IsStep z.0 c.begin.new.seat.id v w z.1 limit c.args.start buffer s.step.count s.step.last) (λ i. (sym c.if-bound.true i, c.in_ok-at.ensures.trail.0 i)) its)) c.step_up.ensures.step
 
 pub returns-clause-keeps : goal.returns-clause-keeps
 returns-clause-keeps g c = keeps_then c.args.seat.now.view c.begin.new.seat.view c.step_down.new.seat.view c.begin.ensures.keeps c.step_down.ensures.keeps
@@ -34,4 +34,4 @@ returns-clause-step g c =
     let limit = c.args.bound.limit in
     let buffer = pairs_of g.P.RangeEntry.pair c.step_down.new.buffer in
     if_some c.step_down.result (λ s its. step_since c.args.bound.up c.begin.new.seat.id id u v w c.args.key limit c.args.start s.step.count s.step.last buffer b.id (seen_equal id u v b.seen)
-    (subst (λ (z : Bool × ℕ). IsStep z.0 c.begin.new.seat.id v w z.1 limit c.args.start buffer s.step.count s.step.last) (λ i. (sym c.if-bound.false i, c.in_ok-at.ensures.position.0 i)) its)) c.step_down.ensures.step
+    (subst (λ (z : Bool × ℕ). IsStep z.0 c.begin.new.seat.id v w z.1 limit c.args.start buffer s.step.count s.step.last) (λ i. (sym c.if-bound.false i, c.in_ok-at.ensures.trail.0 i)) its)) c.step_down.ensures.step
