@@ -40,9 +40,8 @@ use Rattle.live_scans.specs.declared.next.Visit.TheVariants as visits
 use Rattle.live_scans.specs.declared.next.Turn.TheVariants as turns
 use Rattle.live_scans.proofs.Uppers.{up-rises}
 use Rattle.live_scans.proofs.Composed.{none_read, reads_then, reads_since, nothing_between}
-use Rattle.live_scans.specs.inner.Stops.{IsPosition, IsTrail}
+use Rattle.live_scans.specs.inner.Stops.{IsPosition}
 use Rattle.live_scans.specs.declared.position.Position.{Position}
-use Rattle.live_scans.specs.declared.position.Trail.{Trail}
 use Rattle.live_scans.proofs.Passes.{passed_since, step_since}
 use Rattle.live_scans.proofs.Wholes.{node_whole}
 use Rattle.live_scans.proofs.Nones.{covers_like, at_digit, is_within}
@@ -680,9 +679,6 @@ visited_to c id u v w key s d limit start buffer o is seen read low seam t e =
 
 pub position_on : (v w : Seen) (s : Position) → Keeps v w → IsPosition v s → IsPosition w s
 position_on v w s keeps i = (i.0, i.1, names_kept v w s.name s.key s.height keeps i.2)
-
-pub trail_on : (v w : Seen) (t : Trail) → Keeps v w → IsTrail v t → IsTrail w t
-trail_on v w t keeps i = (position_on v w t.low keeps i.0, position_on v w t.high keeps i.1)
 
 -- the leaf of a key, by a part of it
 pub leaf_named : (w : Seen) (key name base first last : ℕ) → Names w name key 1 → base % 256 ≡ 0 → base + last ≡ key → first ≤ last → last ≤ 255 → Names w name (base + first) 1

@@ -11,7 +11,7 @@ pub mod laws;
 
 use crate::bound::{Bound, key_after};
 use crate::page::read_on;
-use crate::position::{Position, Trail};
+use crate::position::{Position, Stand, Trail};
 use crate::scans::ceiling;
 use crate::seek::start;
 use live_growth::map::{Busy, Congee, Guard};
@@ -36,10 +36,11 @@ fn count_all(nodes: &Nodes, position: Position, seat: &mut Seat) -> Option<u128>
     };
     let mut count = 0u128;
     let mut from = 0u64;
-    let mut at = Some(Trail {
-        low: position,
-        high: position,
-    });
+    let low = Stand {
+        at: position,
+        known: None,
+    };
+    let mut at = Some(Trail { low, high: low });
     loop {
         let stepped = read_on(nodes, at, from, bound, &mut leaf, 0, seat)?;
         let step = stepped.step;

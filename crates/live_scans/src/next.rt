@@ -8,13 +8,14 @@ ghost use Rattle.live_reads.specs.Paths.{Names, Sights, Keeps};
 ghost use Rattle.live_reads.specs.Mismatches.{first_number};
 ghost use Rattle.live_scans.specs.inner.Moments.{SeesMore, HasNone, IsPassed};
 ghost use Rattle.live_scans.specs.inner.Nexts.{IsNear, IsNext, IsLower, HasHead, IsOutside, Chooses, Enters, Visits};
+ghost use Rattle.live_scans.specs.inner.Stops.{IsKnown};
 
 use crate::after::child_after;
 use crate::beside::read_beside;
 use crate::bound::{Request, Step};
 use crate::keys::{floor_of, last_of, upper};
 use crate::on_check::Whole;
-use crate::position::Position;
+use crate::position::{Known, Position, open_known};
 use live_law::law::{Above, Asks, Below, Head, Look, MapLaw, MapView};
 use live_layout::form::{form_below, slot_below};
 use live_layout::page::RangeEntry;
@@ -22,7 +23,7 @@ use live_layout::words::ReadWords;
 use live_nodes::node;
 use live_nodes::rows::SharedWords;
 use live_reads::path::{Cell, Nodes, Opened, Seat, byte_at, open};
-use live_reads::prefix_match::{PrefixMatch, compare, enter};
+use live_reads::prefix_match::{PrefixMatch, compare};
 use std::marker::Brand;
 
 /// An open node, and its child nearest to a key's byte: the byte and the word.
@@ -56,9 +57,8 @@ pub enum Visit {
 }
 
 /// A node that a key has come to is open, and its nearest child read. `None` where a writer came in between.
-fn open_near<'a>(nodes: &'a Nodes, at: Position, seat: &mut Seat) -> Option<Near<'a>>
-    requires book { seat.old.book ≡ nodes.now }
-    requires named { Names seat.old.view at.name at.key at.height }
+fn open_near<'a>(at: Position, known: Known<'a>, seat: &mut Seat) -> Option<Near<'a>>
+    requires known { IsKnown seat.old.view seat.old.book at known.words.now known.head }
     requires height { (2 ≤ at.height) × (at.height ≤ 8) }
     ensures book { seat.new.book ≡ seat.old.book }
     ensures id { seat.new.id ≡ seat.old.id }
@@ -67,7 +67,7 @@ fn open_near<'a>(nodes: &'a Nodes, at: Position, seat: &mut Seat) -> Option<Near
     ensures near { IfSome result (λ n. let here = n.here
         in IsNear seat.new.view seat.new.book here.words.now here.taken at n.found) }
 {
-    let here = enter(nodes, at.name, at.height, at.key, seat)?;
+    let here = open_known(at, known, seat)?;
     let row = SharedWords { words: here.words };
     let found = child_after(&row, form_below(at.name), byte_at(at.key, at.height), seat);
     Some(Near { here, found })
@@ -334,13 +334,14 @@ fn behind<A: Asks>(here: Opened<'_>, at: Position, seat: &mut Seat) -> Option<u6
 pub fn visit_node<A: Asks, P: RangeEntry>(
     nodes: &Nodes,
     at: Position,
+    known: Known<'_>,
     request: Request,
     buffer: &mut [P],
     seat: &mut Seat,
 ) -> Option<Visit>
     requires book { seat.old.book ≡ nodes.now }
     requires asks { A.ask.caller ≡ seat.old.id }
-    requires named { Names seat.old.view at.name at.key at.height }
+    requires known { IsKnown seat.old.view seat.old.book at known.words.now known.head }
     requires height { (2 ≤ at.height) × (at.height ≤ 8) }
     requires order { at.key ≤ request.limit }
     requires start { request.start < length buffer.old }
@@ -353,7 +354,7 @@ pub fn visit_node<A: Asks, P: RangeEntry>(
     ensures visits { Visits seat.old.id seat.old.view seat.new.view at request.limit request.start
         (pairs_of P.pair buffer.new) result }
 {
-    let near = open_near(nodes, at, seat)?;
+    let near = open_near(at, known, seat)?;
     match near.found {
         None => {
             let last = behind::<A>(near.here, at, seat)?;

@@ -10,7 +10,7 @@ ghost use Rattle.live_scans.specs.inner.Stops.{IsPosition, IsTrail};
 use crate::bound::{Bound, Request, Step, key_after, nearer, part_of};
 use crate::leaf::leaf_page;
 use crate::next::{Visit, visit_node};
-use crate::position::{Position, Trail};
+use crate::position::{Position, Stand, Trail, know};
 use crate::seek::{Reach, begin, seek_down};
 use live_growth::map::TRIES;
 use live_law::law::Asks;
@@ -19,25 +19,25 @@ use live_reads::path::{Nodes, Seat};
 use std::marker::Brand;
 
 /// A step, and the nodes above where it has come to.
-#[derive(Clone, Copy, Debug, PartialEq, Eq)]
-pub struct Stepped {
+#[derive(Clone, Copy)]
+pub struct Stepped<'a> {
     pub step: Step,
-    pub trail: Trail,
+    pub trail: Trail<'a>,
 }
 
 // One step upwards from a node on: a leaf is written into the buffer, or keys are passed that are absent. `None` where a writer came
 // in between.
-fn step_up<A: Asks, P: RangeEntry>(
-    nodes: &Nodes,
-    trail: Trail,
+fn step_up<'a, A: Asks, P: RangeEntry>(
+    nodes: &'a Nodes,
+    trail: Trail<'a>,
     request: Request,
     buffer: &mut [P],
     seat: &mut Seat,
-) -> Option<Stepped>
+) -> Option<Stepped<'a>>
     requires book { seat.old.book ≡ nodes.now }
     requires asks { A.ask.caller ≡ seat.old.id }
-    requires trail { IsTrail seat.old.view trail }
-    requires order { trail.low.key ≤ request.limit }
+    requires trail { IsTrail seat.old.view seat.old.book trail }
+    requires order { trail.low.at.key ≤ request.limit }
     requires start { request.start < length buffer.old }
     ensures before { take request.start (pairs_of P.pair buffer.new)
         ≡ take request.start (pairs_of P.pair buffer.old) }
@@ -45,27 +45,36 @@ fn step_up<A: Asks, P: RangeEntry>(
     ensures id { seat.new.id ≡ seat.old.id }
     ensures keeps { Keeps seat.old.view seat.new.view }
     ensures seen { SeesMore seat.new.view.client.seen seat.old.id seat.old.view.client.seen }
-    ensures trail { IfSome result (λ s. IsTrail seat.new.view s.trail) }
+    ensures trail { IfSome result (λ s. IsTrail seat.new.view seat.new.book s.trail) }
     ensures step { IfSome result (λ s. IsStep true seat.old.id seat.old.view seat.new.view
-        trail.low.key request.limit request.start (pairs_of P.pair buffer.new) s.step.count s.step.last) }
+        trail.entry.low.at.key request.limit request.start (pairs_of P.pair buffer.new) s.step.count s.step.last) }
 {
     let mut at = trail;
     loop {
-        match visit_node::<A, P>(nodes, at.low, request, buffer, seat)? {
+        let known = know(nodes, at.low, seat)?;
+        let low = Stand {
+            at: at.low.at,
+            known: Some(known),
+        };
+        let trail = Trail { low, high: at.high };
+        match visit_node::<A, P>(nodes, low.at, known, request, buffer, seat)? {
             Visit::Past(last) => {
                 return Some(Stepped {
                     step: Step {
                         count: request.start,
                         last: last.min(request.limit),
                     },
-                    trail: at,
+                    trail,
                 });
             }
-            Visit::Read(step) => return Some(Stepped { step, trail: at }),
+            Visit::Read(step) => return Some(Stepped { step, trail }),
             Visit::Goes(node) => {
                 at = Trail {
-                    low: node,
-                    high: at.low,
+                    low: Stand {
+                        at: node,
+                        known: None,
+                    },
+                    high: low,
                 };
             }
         }
@@ -74,14 +83,14 @@ fn step_up<A: Asks, P: RangeEntry>(
 
 // One step downwards from a node on, by the position's key: a part of a leaf is written into the buffer, or keys are passed that are
 // absent. `None` where a writer came in between.
-fn step_down<A: Asks, P: RangeEntry>(
-    nodes: &Nodes,
+fn step_down<'a, A: Asks, P: RangeEntry>(
+    nodes: &'a Nodes,
     at: Position,
     limit: u64,
     buffer: &mut [P],
     start: usize,
     seat: &mut Seat,
-) -> Option<Stepped>
+) -> Option<Stepped<'a>>
     requires book { seat.old.book ≡ nodes.now }
     requires asks { (A.ask.key ≡ at.key) × (A.ask.caller ≡ seat.old.id) × (A.reads ≡ false) }
     requires position { IsPosition seat.old.view at }
@@ -93,16 +102,17 @@ fn step_down<A: Asks, P: RangeEntry>(
     ensures id { seat.new.id ≡ seat.old.id }
     ensures keeps { Keeps seat.old.view seat.new.view }
     ensures seen { SeesMore seat.new.view.client.seen seat.old.id seat.old.view.client.seen }
-    ensures trail { IfSome result (λ s. IsTrail seat.new.view s.trail) }
+    ensures trail { IfSome result (λ s. IsTrail seat.new.view seat.new.book s.trail) }
     ensures step { IfSome result (λ s. IsStep false seat.old.id seat.old.view seat.new.view
         at.key limit start (pairs_of P.pair buffer.new) s.step.count s.step.last) }
 {
     let bound = Bound { up: false, limit };
     let sought = seek_down::<A>(nodes, at, seat)?;
-    let trail = Trail {
-        low: sought.position,
-        high: sought.position,
+    let low = Stand {
+        at: sought.position,
+        known: None,
     };
+    let trail = Trail { low, high: low };
     match sought.reach {
         Reach::Past(last) => Some(Stepped {
             step: Step {
@@ -127,18 +137,18 @@ fn step_down<A: Asks, P: RangeEntry>(
 
 // One step from a key on: a part of a leaf is written into the buffer, or keys are passed that are absent. `None` where a writer
 // came in between.
-fn try_step<P: RangeEntry>(
-    nodes: &Nodes,
-    trail: Option<Trail>,
+fn try_step<'a, P: RangeEntry>(
+    nodes: &'a Nodes,
+    trail: Option<Trail<'a>>,
     key: u64,
     bound: Bound,
     buffer: &mut [P],
     start: usize,
     seat: &mut Seat,
-) -> Option<Stepped>
+) -> Option<Stepped<'a>>
     requires book { seat.old.book ≡ nodes.now }
     requires root_word { KnowsRootWord seat.old.view }
-    requires trail { IfSome trail (IsTrail seat.old.view) }
+    requires trail { IfSome trail (IsTrail seat.old.view seat.old.book) }
     requires order { IsFrom bound.up key bound.limit }
     requires start { start < length buffer.old }
     ensures before { take start (pairs_of P.pair buffer.new)
@@ -147,7 +157,7 @@ fn try_step<P: RangeEntry>(
     ensures id { seat.new.id ≡ seat.old.id }
     ensures keeps { Keeps seat.old.view seat.new.view }
     ensures seen { SeesMore seat.new.view.client.seen seat.old.id seat.old.view.client.seen }
-    ensures trail { IfSome result (λ s. IsTrail seat.new.view s.trail) }
+    ensures trail { IfSome result (λ s. IsTrail seat.new.view seat.new.book s.trail) }
     ensures step { IfSome result (λ s. IsStep bound.up seat.old.id seat.old.view seat.new.view
         key bound.limit start (pairs_of P.pair buffer.new) s.step.count s.step.last) }
 {
@@ -159,23 +169,23 @@ fn try_step<P: RangeEntry>(
         };
         return step_up::<Brand, P>(nodes, at, request, buffer, seat);
     }
-    step_down::<Brand, P>(nodes, at.low, bound.limit, buffer, start, seat)
+    step_down::<Brand, P>(nodes, at.low.at, bound.limit, buffer, start, seat)
 }
 
 /// One step from a key on, in some tries, from the root on after the first: a part of a leaf is written into the buffer, or keys are
 /// passed that are absent. `None` where too many writers came in between.
-pub fn read_on<P: RangeEntry>(
-    nodes: &Nodes,
-    trail: Option<Trail>,
+pub fn read_on<'a, P: RangeEntry>(
+    nodes: &'a Nodes,
+    trail: Option<Trail<'a>>,
     key: u64,
     bound: Bound,
     buffer: &mut [P],
     start: usize,
     seat: &mut Seat,
-) -> Option<Stepped>
+) -> Option<Stepped<'a>>
     requires book { seat.old.book ≡ nodes.now }
     requires root_word { KnowsRootWord seat.old.view }
-    requires trail { IfSome trail (IsTrail seat.old.view) }
+    requires trail { IfSome trail (IsTrail seat.old.view seat.old.book) }
     requires order { IsFrom bound.up key bound.limit }
     requires start { start < length buffer.old }
     ensures before { take start (pairs_of P.pair buffer.new)
@@ -184,7 +194,7 @@ pub fn read_on<P: RangeEntry>(
     ensures id { seat.new.id ≡ seat.old.id }
     ensures keeps { Keeps seat.old.view seat.new.view }
     ensures seen { SeesMore seat.new.view.client.seen seat.old.id seat.old.view.client.seen }
-    ensures trail { IfSome result (λ s. IsTrail seat.new.view s.trail) }
+    ensures trail { IfSome result (λ s. IsTrail seat.new.view seat.new.book s.trail) }
     ensures step { IfSome result (λ s. IsStep bound.up seat.old.id seat.old.view seat.new.view
         key bound.limit start (pairs_of P.pair buffer.new) s.step.count s.step.last) }
 {
@@ -222,10 +232,11 @@ pub fn page<P: RangeEntry>(
 {
     let mut count = 0;
     let mut from = key;
-    let mut at = Some(Trail {
-        low: position,
-        high: position,
-    });
+    let low = Stand {
+        at: position,
+        known: None,
+    };
+    let mut at = Some(Trail { low, high: low });
     loop {
         let stepped = read_on(nodes, at, from, bound, buffer, count, seat)?;
         let step = stepped.step;

@@ -7,7 +7,7 @@ ghost use Rattle.live_scans.specs.inner.Stops.{IsPosition, IsTrail, Starts, Reac
 
 use crate::gaps::{around, gap};
 use crate::keys::upper;
-use crate::position::{Position, Trail};
+use crate::position::{Position, Stand, Trail};
 use live_growth::map::TRIES;
 use live_law::law::Asks;
 use live_reads::path::{Nodes, Seat, root, root_begun};
@@ -79,35 +79,44 @@ pub fn seek_down<A: Asks>(nodes: &Nodes, position: Position, seat: &mut Seat) ->
 }
 
 // This node with another key, if the key begins like it.
-fn with_key(at: Position, key: u64) -> Option<Position>
-    requires height { at.height ≤ 8 }
-    ensures with { IfSome result (λ s. (s.key ≡ key) × (s.name ≡ at.name) × (s.height ≡ at.height)
-        × (up at.height key ≡ up at.height at.key)) }
+fn with_key<'a>(stand: Stand<'a>, key: u64) -> Option<Stand<'a>>
+    requires height { stand.at.height ≤ 8 }
+    ensures with { IfSome result (λ s. (s.at.key ≡ key) × (s.at.name ≡ stand.entry.at.name)
+        × (s.at.height ≡ stand.entry.at.height) × (s.known ≡ stand.entry.known)
+        × (up stand.entry.at.height key ≡ up stand.entry.at.height stand.entry.at.key)) }
 {
+    let Stand { at, known } = stand;
     if upper(at.key, at.height) != upper(key, at.height) {
         return None;
     }
-    Some(Position {
+    let at = Position {
         name: at.name,
         height: at.height,
         key,
-    })
+    };
+    Some(Stand { at, known })
 }
 
 /// The trail of a key: from the lower node of this one on, if the key begins like it, or from the upper one on, or from the root on.
 /// `None` where a writer came in between.
-pub fn begin(nodes: &Nodes, trail: Option<Trail>, key: u64, seat: &mut Seat) -> Option<Trail>
+pub fn begin<'a>(
+    nodes: &'a Nodes,
+    trail: Option<Trail<'a>>,
+    key: u64,
+    seat: &mut Seat,
+) -> Option<Trail<'a>>
     requires book { seat.old.book ≡ nodes.now }
     requires root_word { KnowsRootWord seat.old.view }
-    requires trail { IfSome trail (IsTrail seat.old.view) }
+    requires trail { IfSome trail (IsTrail seat.old.view seat.old.book) }
     ensures book { seat.new.book ≡ seat.old.book }
     ensures id { seat.new.id ≡ seat.old.id }
     ensures keeps { Keeps seat.old.view seat.new.view }
     ensures seen { seat.new.view.client.seen ≡ seat.old.view.client.seen }
-    ensures trail { IfSome result (λ t. (t.low.key ≡ key) × IsTrail seat.new.view t) }
+    ensures trail { IfSome result (λ t. (t.low.at.key ≡ key) × IsTrail seat.new.view seat.new.book t) }
 {
-    if let Some(Trail { low, high }) = trail {
-        if let Some(low) = with_key(low, key) {
+    if let Some(from) = trail {
+        let high = from.high;
+        if let Some(low) = with_key(from.low, key) {
             return Some(Trail { low, high });
         }
         if let Some(low) = with_key(high, key) {
@@ -115,11 +124,12 @@ pub fn begin(nodes: &Nodes, trail: Option<Trail>, key: u64, seat: &mut Seat) -> 
         }
     }
     let name = root(nodes, key, seat)?;
-    let low = Position {
+    let at = Position {
         name,
         height: 8,
         key,
     };
+    let low = Stand { at, known: None };
     Some(Trail { low, high: low })
 }
 

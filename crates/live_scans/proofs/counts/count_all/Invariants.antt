@@ -18,7 +18,7 @@ invariant-loop-stepped l = record {
   pairs : Pairs ℕ;
   read : HasRead true l.fn.seat.view.client.seen l.seat.view.client.seen 0 l.from pairs;
   count_is : l.count ≡ length pairs;
-  trail : IfSome l.at (IsTrail l.seat.view);
+  trail : IfSome l.at (IsTrail l.seat.view l.seat.book);
 }
 
 abbrev pub decreases-loop-stepped : goal.decreases-loop-stepped

@@ -51,7 +51,7 @@ loop-stepped-init g c =
       order = begins.2;
       within = c.requires.order;
       seam = begins.1;
-      trail = (c.requires.position, c.requires.position);
+      trail = ((c.requires.position, tt), (c.requires.position, tt));
       read = begins.0;
     }
 

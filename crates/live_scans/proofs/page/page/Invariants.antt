@@ -17,7 +17,7 @@ invariant-loop-stepped g l = record {
   order : IsFrom l.bound.up l.key l.from;
   within : IsFrom l.bound.up l.from l.bound.limit;
   seam : BeginsLeaf l.bound.up l.key l.from;
-  trail : IfSome l.at (IsTrail l.seat.view);
+  trail : IfSome l.at (IsTrail l.seat.view l.seat.book);
   read : HasReadTo l.bound.up l.fn.seat.view.client.seen l.seat.view.client.seen l.key l.from (take l.count (pairs_of g.P.RangeEntry.pair l.buffer));
 }
 

@@ -11,6 +11,6 @@ invariant-loop g l = record {
   id : l.seat.id ≡ l.fn.seat.id;
   keeps : Keeps l.fn.seat.view l.seat.view;
   seen : SeesMore l.seat.view.client.seen l.fn.seat.id l.fn.seat.view.client.seen;
-  trail : IfSome l.at (IsTrail l.seat.view);
+  trail : IfSome l.at (IsTrail l.seat.view l.seat.book);
   before : take l.start (pairs_of g.P.RangeEntry.pair l.buffer) ≡ take l.start (pairs_of g.P.RangeEntry.pair l.fn.buffer);
 }

@@ -48,7 +48,7 @@ returns-in_err-filled-in-Leaf g c =
       id = t.1;
       keeps = t.2;
       seen = t.3;
-      trail = when_out (λ s. IsTrail x s.trail) c.from_residual-in_err-filled-in-Leaf.result out;
+      trail = when_out (λ s. IsTrail x c.leaf_page.new.seat.book s.trail) c.from_residual-in_err-filled-in-Leaf.result out;
       step = when_out (λ s. IsStep false c.args.seat.now.id c.args.seat.now.view x c.args.at.key c.args.limit c.args.start (pairs_of g.P.RangeEntry.pair c.leaf_page.new.buffer) s.step.count s.step.last) c.from_residual-in_err-filled-in-Leaf.result out;
     }
 
@@ -72,6 +72,6 @@ returns-in_ok-filled-in-Leaf g c =
       id = t.1;
       keeps = t.2;
       seen = t.3;
-      trail = let at = position_on w x c.in_ok-sought.sought.position e.keeps c.in_ok-sought.ensures.position in (at, at);
+      trail = let at = position_on w x c.in_ok-sought.sought.position e.keeps c.in_ok-sought.ensures.position in ((at, tt), (at, tt));
       step = leaf_step false c.seek_down.new.seat.id id u w x c.args.at.key c.args.limit c.args.start p.base p.first p.last o.count o.reached buffer s.id s.seen q.base.0 q.begins q.within q.whole f.0 (omega (arith, n, f)) f.2 f.3 (omega arith) (λ ne. omega (arith, n, f.4 ne)) e.reads;
     }
