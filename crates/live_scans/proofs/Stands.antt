@@ -1,17 +1,17 @@
 -- Nodes on a reader's path, whose words are known.
-use Rattle.std.proofs.Common.{◌≡◌, ℕ, ◌%◌, ◌≤◌, List, [], ◌∷◌, Option, Some, None, IfSome, refl, sym, ap, ◌∙◌, subst}
+use Rattle.std.proofs.Common.{◌≡◌, ℕ, ◌%◌, ◌≤◌, List, [], IfSome, sym, ap, ◌∙◌, subst}
 use Rattle.word_book.specs.Book.{Book, Name, reads, none_joined}
 use Rattle.live_nodes.specs.Nodes.{Content}
-use Rattle.live_nodes.specs.Seats.{read, SeatView, IsIn, Agree}
+use Rattle.live_nodes.specs.Seats.{SeatView, IsIn, Agree}
 use Rattle.live_nodes.specs.Plays.{Takes}
 use Rattle.live_nodes.specs.Rows.{AreOf, last_saw, without_reads}
 use Rattle.live_layout.specs.Words as cells
-use Rattle.live_law.specs.Levels.{up, Shape, Spot, place_at}
+use Rattle.live_law.specs.Levels.{up, Spot, place_at}
 use Rattle.live_law.specs.Views.{View}
 use Rattle.live_reads.specs.Paths.{Names, HasOpened, IsOpen, Keeps}
 use Rattle.live_reads.proofs.Views.{reading, reading_keeps, reading_on_keeps, open_read, if_some}
 use Rattle.live_reads.proofs.Finds.{keeps_then, names_kept}
-use Rattle.live_scans.specs.inner.Stops.{IsPosition, IsKnown, IsStand, IsTrail}
+use Rattle.live_scans.specs.inner.Stops.{IsKnown, IsStand, IsTrail}
 use Rattle.live_scans.specs.declared.position.Position.{Position}
 use Rattle.live_scans.specs.declared.position.Stand.{Stand}
 use Rattle.live_scans.specs.declared.position.Trail.{Trail}

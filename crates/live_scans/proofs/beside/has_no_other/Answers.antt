@@ -1,4 +1,4 @@
-use Rattle.std.proofs.Common.{rules, sym, subst, IsTrue, false, ℕ, ◌≡◌, ◌∙◌}
+use Rattle.std.proofs.Common.{rules, subst, IsTrue, false, ℕ, ◌∙◌}
 use Rattle.live_reads.proofs.Finds.{keeps_then}
 use Rattle.live_scans.specs.inner.Moments.{HasNone}
 use Rattle.live_scans.specs.inner.Nexts.{IsOutside}

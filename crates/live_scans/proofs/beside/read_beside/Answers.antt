@@ -1,12 +1,10 @@
-use Rattle.std.proofs.Common.{rules, arith, refl, sym, true, false, cond, nat_eq, ℕ, ◌≡◌, ◌⊎◌, ◌+◌, ◌%◌, ◌∙◌, inl, inr, subst}
+use Rattle.std.proofs.Common.{rules, arith, refl, true, ℕ, ◌≡◌, ◌+◌, ◌%◌, inl, inr}
 use mathlib.Core.Logic.{dite}
 use native.Mathlib.Decide.{ℕ_discrete}
 use Rattle.std.proofs.lemmas.List.{length-map}
 use Rattle.live_layout.specs.Page.{pairs_of}
 use Rattle.live_reads.specs.Paths.{Keeps}
 use Rattle.live_reads.proofs.Finds.{keeps_then}
-use Rattle.live_scans.specs.inner.Moments.{HasNone}
-use Rattle.live_scans.specs.inner.Nexts.{IsLower, IsOutside}
 use Rattle.live_scans.specs.inner.Steps.{IsStep}
 use Rattle.live_scans.proofs.Composed.{more_same}
 use Rattle.live_scans.proofs.Passes.{leaf_step}

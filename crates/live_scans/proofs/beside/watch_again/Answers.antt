@@ -1,4 +1,4 @@
-use Rattle.std.proofs.Common.{arith, sym, ap, subst, Some, ℕ, Option, ◌≡◌, ◌/◌, ◌∙◌}
+use Rattle.std.proofs.Common.{arith, sym, ap, subst, Some, ℕ, Option, ◌/◌, ◌∙◌}
 use mathlib.Core.Logic.{dite}
 use native.Mathlib.Decide.{ℕ_discrete}
 use Rattle.word_book.specs.Book.{reads, none_joined}

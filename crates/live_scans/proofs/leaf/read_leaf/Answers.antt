@@ -1,4 +1,4 @@
-use Rattle.std.proofs.Common.{rules, arith, refl, sym, ap, subst, cond, ◌≡◌, ◌+◌, ◌/◌, ◌∙◌}
+use Rattle.std.proofs.Common.{rules, arith, sym, ap, subst, ◌≡◌, ◌+◌, ◌/◌, ◌∙◌}
 use Rattle.live_nodes.specs.Seats.{Agree}
 use Rattle.live_nodes.specs.Rows.{last_saw}
 use Rattle.live_layout.specs.Encodes.{words_of}
@@ -6,7 +6,7 @@ use Rattle.live_law.specs.Levels.{place_at}
 use Rattle.live_law.specs.Views.{View}
 use Rattle.live_reads.proofs.Views.{first_word, may_read_open}
 use Rattle.live_scans.specs.inner.Moments.{IsRead}
-use Rattle.live_scans.proofs.Wholes.{IsLeafRead, may_leaf, leaf_missed, leaf_hit}
+use Rattle.live_scans.proofs.Wholes.{may_leaf, leaf_missed, leaf_hit}
 use Rattle.live_scans.proofs.Passes.{seen_equal}
 use Rattle.live_scans.proofs.Nones.{part_reads}
 use Rattle.live_scans.proofs.leaf.read_leaf.Given.{Over}

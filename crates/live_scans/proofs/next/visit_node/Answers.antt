@@ -3,7 +3,6 @@ use Rattle.live_layout.specs.Page.{pairs_of}
 use Rattle.live_reads.proofs.Finds.{keeps_then}
 use Rattle.live_scans.proofs.Passes.{seen_equal, seen_since, passed_since}
 use Rattle.live_scans.proofs.Nexts.{visits_since}
-use Rattle.live_scans.proofs.next.visit_node.Given.{Over}
 use Rattle.live_scans.proofs.next.visit_node.Goals as goal
 
 pub returns-in_err-last-in-None-clause-keeps : goal.returns-in_err-last-in-None-clause-keeps

@@ -1,12 +1,11 @@
-use Rattle.std.proofs.Common.{rules, arith, refl, subst, false, None, ◌≡◌, ◌+◌}
+use Rattle.std.proofs.Common.{rules, arith, subst, false, None, ◌≡◌}
 use Rattle.std.proofs.lemmas.List.{length-map}
 use Rattle.live_reads.proofs.Finds.{when_out}
 use Rattle.live_layout.specs.Page.{pairs_of}
 use Rattle.live_reads.specs.Paths.{Names}
 use Rattle.live_scans.specs.inner.Stops.{IsTrail, Reaches}
 use Rattle.live_scans.specs.inner.Steps.{IsStep}
-use Rattle.live_scans.proofs.Composed.{more_same}
-use Rattle.live_scans.proofs.Passes.{Stays, stays_then, gap_step, leaf_step, step_since}
+use Rattle.live_scans.proofs.Passes.{Stays, stays_then, gap_step, leaf_step}
 use Rattle.live_scans.proofs.Nexts.{position_on, leaf_named}
 use Rattle.live_scans.proofs.page.step_down.Given.{Over}
 use Rattle.live_scans.proofs.page.step_down.Goals as goal

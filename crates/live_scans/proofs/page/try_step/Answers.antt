@@ -1,4 +1,4 @@
-use Rattle.std.proofs.Common.{refl, sym, subst, Bool, ℕ, IfSome, true, false}
+use Rattle.std.proofs.Common.{sym, subst, Bool, ℕ}
 use Rattle.live_layout.specs.Page.{pairs_of}
 use Rattle.live_reads.proofs.Finds.{keeps_then}
 use Rattle.live_reads.proofs.Views.{if_some}
