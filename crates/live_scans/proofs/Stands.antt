@@ -11,10 +11,9 @@ use Rattle.live_law.specs.Views.{View}
 use Rattle.live_reads.specs.Paths.{Names, HasOpened, IsOpen, Keeps}
 use Rattle.live_reads.proofs.Views.{reading, reading_keeps, reading_on_keeps, open_read, if_some}
 use Rattle.live_reads.proofs.Finds.{keeps_then, names_kept}
-use Rattle.live_scans.specs.inner.Stops.{IsKnown, IsStand, IsTrail}
+use Rattle.live_scans.specs.inner.Stops.{IsKnown, IsStand}
 use Rattle.live_scans.specs.declared.position.Position.{Position}
 use Rattle.live_scans.specs.declared.position.Stand.{Stand}
-use Rattle.live_scans.specs.declared.position.Trail.{Trail}
 use Rattle.live_scans.proofs.Nexts.{position_on}
 
 abbrev Seen : Type 0
@@ -30,9 +29,6 @@ known_kept v w b b' s words head keeps book k = record {
 
 pub stand_kept : (v w : Seen) (b b' : Book) (s : Stand) → Keeps v w → b' ≡ b → IsStand v b s → IsStand w b' s
 stand_kept v w b b' s keeps book i = (position_on v w s.at keeps i.0, if_some s.known (λ k x. known_kept v w b b' s.at k.words.now k.head keeps book x) i.1)
-
-pub trail_kept : (v w : Seen) (b b' : Book) (t : Trail) → Keeps v w → b' ≡ b → IsTrail v b t → IsTrail w b' t
-trail_kept v w b b' t keeps book i = (stand_kept v w b b' t.low keeps book i.0, stand_kept v w b b' t.high keeps book i.1)
 
 -- BY ANOTHER KEY
 names_like : (v : Seen) (p q : Position) → q.name ≡ p.name → q.height ≡ p.height → up p.height q.key ≡ up p.height p.key → Names v p.name p.key p.height → Names v q.name q.key q.height
