@@ -11,7 +11,7 @@ pub mod laws;
 
 use crate::bound::{Bound, key_after};
 use crate::page::read_on;
-use crate::position::{Position, Stand, Trail};
+use crate::position::{PathNode, Position, Trail};
 use crate::scans::ceiling;
 use crate::seek::start;
 use live_growth::map::{Busy, Congee, Guard};
@@ -36,7 +36,7 @@ fn count_all(nodes: &Nodes, position: Position, seat: &mut Seat) -> Option<u128>
     };
     let mut count = 0u128;
     let mut from = 0u64;
-    let low = Stand {
+    let low = PathNode {
         at: position,
         known: None,
     };

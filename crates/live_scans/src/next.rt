@@ -8,14 +8,14 @@ ghost use Rattle.live_reads.specs.Paths.{Names, Sights, Keeps};
 ghost use Rattle.live_reads.specs.Mismatches.{first_number};
 ghost use Rattle.live_scans.specs.inner.Moments.{SeesMore, HasNone, IsPassed};
 ghost use Rattle.live_scans.specs.inner.Nexts.{IsNear, IsNext, IsLower, HasHead, IsOutside, Chooses, Enters, Visits};
-ghost use Rattle.live_scans.specs.inner.Stops.{IsKnown};
+ghost use Rattle.live_scans.specs.inner.Stops.{HasWords};
 
 use crate::after::child_after;
 use crate::beside::read_beside;
 use crate::bound::{Request, Step};
 use crate::keys::{floor_of, last_of, upper};
 use crate::on_check::Whole;
-use crate::position::{Known, Position, open_known};
+use crate::position::{NodeWords, Position, open_known};
 use live_law::law::{Above, Asks, Below, Head, Look, MapLaw, MapView};
 use live_layout::form::{form_below, slot_below};
 use live_layout::page::RangeEntry;
@@ -57,8 +57,8 @@ pub enum Visit {
 }
 
 /// A node that a key has come to is open, and its nearest child read. `None` where a writer came in between.
-fn open_near<'a>(at: Position, known: Known<'a>, seat: &mut Seat) -> Option<Near<'a>>
-    requires known { IsKnown seat.old.view seat.old.book at known.words.now known.head }
+fn open_near<'a>(at: Position, known: NodeWords<'a>, seat: &mut Seat) -> Option<Near<'a>>
+    requires known { HasWords seat.old.view seat.old.book at known.words.now known.head }
     requires height { (2 ≤ at.height) × (at.height ≤ 8) }
     ensures book { seat.new.book ≡ seat.old.book }
     ensures id { seat.new.id ≡ seat.old.id }
@@ -297,10 +297,9 @@ fn beside<A: Asks, P: RangeEntry>(
             if node.key > request.limit {
                 return Some(Visit::Past(node.key - 1));
             }
-            let here_below = lower.here;
             let lower = Lower {
                 node,
-                here: here_below,
+                here: lower.here,
             };
             enter_lower::<A, P>(here, at, child, lower, request, buffer, seat)
         }
@@ -334,14 +333,14 @@ fn behind<A: Asks>(here: Opened<'_>, at: Position, seat: &mut Seat) -> Option<u6
 pub fn visit_node<A: Asks, P: RangeEntry>(
     nodes: &Nodes,
     at: Position,
-    known: Known<'_>,
+    known: NodeWords<'_>,
     request: Request,
     buffer: &mut [P],
     seat: &mut Seat,
 ) -> Option<Visit>
     requires book { seat.old.book ≡ nodes.now }
     requires asks { A.ask.caller ≡ seat.old.id }
-    requires known { IsKnown seat.old.view seat.old.book at known.words.now known.head }
+    requires known { HasWords seat.old.view seat.old.book at known.words.now known.head }
     requires height { (2 ≤ at.height) × (at.height ≤ 8) }
     requires order { at.key ≤ request.limit }
     requires start { request.start < length buffer.old }

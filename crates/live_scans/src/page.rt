@@ -10,7 +10,7 @@ ghost use Rattle.live_scans.specs.inner.Stops.{IsPosition, IsTrail};
 use crate::bound::{Bound, Request, Step, key_after, nearer, part_of};
 use crate::leaf::leaf_page;
 use crate::next::{Visit, visit_node};
-use crate::position::{Position, Stand, Trail, know};
+use crate::position::{PathNode, Position, Trail, know};
 use crate::seek::{Reach, begin, seek_down};
 use live_growth::map::TRIES;
 use live_law::law::Asks;
@@ -52,7 +52,7 @@ fn step_up<'a, A: Asks, P: RangeEntry>(
     let mut at = trail;
     loop {
         let known = know(nodes, at.low, seat)?;
-        let low = Stand {
+        let low = PathNode {
             at: at.low.at,
             known: Some(known),
         };
@@ -70,7 +70,7 @@ fn step_up<'a, A: Asks, P: RangeEntry>(
             Visit::Read(step) => return Some(Stepped { step, trail }),
             Visit::Goes(node) => {
                 at = Trail {
-                    low: Stand {
+                    low: PathNode {
                         at: node,
                         known: None,
                     },
@@ -108,7 +108,7 @@ fn step_down<'a, A: Asks, P: RangeEntry>(
 {
     let bound = Bound { up: false, limit };
     let sought = seek_down::<A>(nodes, at, seat)?;
-    let low = Stand {
+    let low = PathNode {
         at: sought.position,
         known: None,
     };
@@ -232,7 +232,7 @@ pub fn page<P: RangeEntry>(
 {
     let mut count = 0;
     let mut from = key;
-    let low = Stand {
+    let low = PathNode {
         at: position,
         known: None,
     };

@@ -7,7 +7,7 @@ ghost use Rattle.live_scans.specs.inner.Stops.{IsPosition, IsTrail, Starts, Reac
 
 use crate::gaps::{around, gap};
 use crate::keys::upper;
-use crate::position::{Position, Stand, Trail};
+use crate::position::{PathNode, Position, Trail};
 use live_growth::map::TRIES;
 use live_law::law::Asks;
 use live_reads::path::{Nodes, Seat, root, root_begun};
@@ -79,13 +79,13 @@ pub fn seek_down<A: Asks>(nodes: &Nodes, position: Position, seat: &mut Seat) ->
 }
 
 // This node with another key, if the key begins like it.
-fn with_key<'a>(stand: Stand<'a>, key: u64) -> Option<Stand<'a>>
-    requires height { stand.at.height ≤ 8 }
-    ensures with { IfSome result (λ s. (s.at.key ≡ key) × (s.at.name ≡ stand.entry.at.name)
-        × (s.at.height ≡ stand.entry.at.height) × (s.known ≡ stand.entry.known)
-        × (up stand.entry.at.height key ≡ up stand.entry.at.height stand.entry.at.key)) }
+fn with_key<'a>(path_node: PathNode<'a>, key: u64) -> Option<PathNode<'a>>
+    requires height { path_node.at.height ≤ 8 }
+    ensures with { IfSome result (λ s. (s.at.key ≡ key) × (s.at.name ≡ path_node.entry.at.name)
+        × (s.at.height ≡ path_node.entry.at.height) × (s.known ≡ path_node.entry.known)
+        × (up path_node.entry.at.height key ≡ up path_node.entry.at.height path_node.entry.at.key)) }
 {
-    let Stand { at, known } = stand;
+    let PathNode { at, known } = path_node;
     if upper(at.key, at.height) != upper(key, at.height) {
         return None;
     }
@@ -94,7 +94,7 @@ fn with_key<'a>(stand: Stand<'a>, key: u64) -> Option<Stand<'a>>
         height: at.height,
         key,
     };
-    Some(Stand { at, known })
+    Some(PathNode { at, known })
 }
 
 /// The trail of a key: from the lower node of this one on, if the key begins like it, or from the upper one on, or from the root on.
@@ -129,7 +129,7 @@ pub fn begin<'a>(
         height: 8,
         key,
     };
-    let low = Stand { at, known: None };
+    let low = PathNode { at, known: None };
     Some(Trail { low, high: low })
 }
 

@@ -12,7 +12,7 @@ use Rattle.live_reads.specs.Paths.{Names}
 use Rattle.live_reads.specs.Roots.{Begins}
 use Rattle.live_scans.specs.inner.Moments.{IsPassed}
 use Rattle.live_scans.specs.declared.position.Position.{Position}
-use Rattle.live_scans.specs.declared.position.Stand.{Stand}
+use Rattle.live_scans.specs.declared.position.PathNode.{PathNode}
 use Rattle.live_scans.specs.declared.position.Trail.{Trail}
 use Rattle.live_scans.specs.declared.seek.Reach.{Reach}
 use Rattle.live_scans.specs.declared.seek.Reach.TheVariants as reaches
@@ -22,17 +22,17 @@ abbrev pub IsPosition : SeatView View → Position → Type 0
 IsPosition v s = (2 ≤ s.height) × (s.height ≤ 8) × Names v s.name s.key s.height
 
 -- These are the words of a node that the seat has met. Where its head is this one, it is what it was met as.
-pub record IsKnown (v : SeatView View) (b : Book) (s : Position) (words : List Name) (head : ℕ) : Type 0 where
+pub record HasWords (v : SeatView View) (b : Book) (s : Position) (words : List Name) (head : ℕ) : Type 0 where
   pub names : Names v s.name s.key s.height
   pub are : AreOf (place_at names.spot) b words
   pub sure : (saw : List (ℕ × ℕ)) (shape : Shape) → ((c : Content) → Agree c saw → cells.at c 0 ≡ head) → IsOf names.spot shape saw → shape ≡ names.spot.shape
 
-abbrev pub IsStand : SeatView View → Book → Stand → Type 0
-IsStand v b s = IsPosition v s.at × IfSome s.known (λ k. IsKnown v b s.at k.words.now k.head)
+abbrev pub IsPathNode : SeatView View → Book → PathNode → Type 0
+IsPathNode v b s = IsPosition v s.at × IfSome s.known (λ k. HasWords v b s.at k.words.now k.head)
 
 -- both of a trail's nodes
 abbrev pub IsTrail : SeatView View → Book → Trail → Type 0
-IsTrail v b t = IsStand v b t.low × IsStand v b t.high
+IsTrail v b t = IsPathNode v b t.low × IsPathNode v b t.high
 
 -- Downwards: past keys that are absent, or at the leaf of the key, which has that name.
 abbrev pub Reaches : ℕ → SeatView View → SeatView View → ℕ → Reach → Type 0

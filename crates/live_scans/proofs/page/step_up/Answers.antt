@@ -4,11 +4,11 @@ use Rattle.live_layout.specs.Page.{pairs_of}
 use Rattle.live_reads.proofs.Finds.{keeps_then, when_out}
 use Rattle.share_rule.specs.History.{Entry}
 use Rattle.live_scans.specs.Scans.{HasRead}
-use Rattle.live_scans.specs.inner.Stops.{IsStand, IsTrail}
+use Rattle.live_scans.specs.inner.Stops.{IsPathNode, IsTrail}
 use Rattle.live_scans.specs.inner.Steps.{IsStep}
 use Rattle.live_scans.specs.declared.next.Visit.TheVariants as visits
 use Rattle.live_scans.proofs.Nexts.{HasGone, visited_past, visited_read, visited_to, position_on}
-use Rattle.live_scans.proofs.Stands.{known_kept, stand_kept}
+use Rattle.live_scans.proofs.PathNodes.{known_kept, path_node_kept}
 use Rattle.live_scans.proofs.Passes.{keeps_same, seen_equal, Stays, stays_then, gap_step}
 use Rattle.live_scans.proofs.Composed.{more_same, nothing_read}
 use Rattle.live_scans.proofs.page.step_up.Given.{Over}
@@ -41,7 +41,7 @@ module _ (g : Over) (c : After-visit_node g) where
       stays_then c.args.seat.now.book c.know.new.seat.book c.visit_node.new.seat.book c.args.seat.now.id c.know.new.seat.id c.visit_node.new.seat.id c.args.seat.now.view c.know.new.seat.view c.visit_node.new.seat.view (begun g before) (t.book, t.id, t.keeps, t.seen)
 
   -- the nodes are where they were
-  low : IsStand c.visit_node.new.seat.view c.visit_node.new.seat.book (record { at = c.loop-known.at.low.at; known = Some c.in_ok-known.known })
+  low : IsPathNode c.visit_node.new.seat.view c.visit_node.new.seat.book (record { at = c.loop-known.at.low.at; known = Some c.in_ok-known.known })
   low =
       let v = c.loop-known.seat.view in
       let u = c.know.new.seat.view in
@@ -51,14 +51,14 @@ module _ (g : Over) (c : After-visit_node g) where
       let at = c.loop-known.at.low.at in
       (position_on v w at (keeps_then v u w c.know.ensures.keeps t.keeps) c.loop-known.invariant.trail.0.0, known_kept u w c.know.new.seat.book c.visit_node.new.seat.book at k.words.now k.head t.keeps t.book c.in_ok-known.ensures.known)
 
-  high : IsStand c.visit_node.new.seat.view c.visit_node.new.seat.book c.loop-known.at.high
+  high : IsPathNode c.visit_node.new.seat.view c.visit_node.new.seat.book c.loop-known.at.high
   high =
       let v = c.loop-known.seat.view in
       let u = c.know.new.seat.view in
       let w = c.visit_node.new.seat.view in
       let k = c.know.ensures in
       let t = c.visit_node.ensures in
-      stand_kept v w c.loop-known.seat.book c.visit_node.new.seat.book c.loop-known.at.high (keeps_then v u w k.keeps t.keeps) (t.book ∙ k.book) c.loop-known.invariant.trail.1
+      path_node_kept v w c.loop-known.seat.book c.visit_node.new.seat.book c.loop-known.at.high (keeps_then v u w k.keeps t.keeps) (t.book ∙ k.book) c.loop-known.invariant.trail.1
 
   -- the buffer has room
   room : c.args.request.start < length (pairs_of g.P.RangeEntry.pair c.visit_node.new.buffer)

@@ -16,11 +16,11 @@ use Rattle.live_scans.proofs.position.know.Goals.{In_ok-here, After-word-head}
 
 -- THE NODE is open
 module _ (c : In_ok-here) where
-  abbrev n : Names c.args.seat.now.view c.args.stand.at.name c.args.stand.at.key c.args.stand.at.height
-  n = c.requires.stand.0.2
+  abbrev n : Names c.args.seat.now.view c.args.path_node.at.name c.args.path_node.at.key c.args.path_node.at.height
+  n = c.requires.path_node.0.2
 
   opened : HasOpened c.open.new.seat.view c.open.new.seat.book c.in_ok-here.here.words.now c.in_ok-here.here.taken n.spot
-  opened = c.in_ok-here.ensures.opened.1 (sights_names c.args.seat.now.view c.args.stand.at.name c.args.stand.at.key c.args.stand.at.height n)
+  opened = c.in_ok-here.ensures.opened.1 (sights_names c.args.seat.now.view c.args.path_node.at.name c.args.path_node.at.key c.args.path_node.at.height n)
 
   placed : IsIn (place_at n.spot) c.open.new.seat.view.places
   placed = c.open.ensures.told.2.places (place_at n.spot) n.placed
@@ -65,8 +65,8 @@ returns-in-Covers c =
     let z = (goal.at.returns-in-Covers c).After-word-head in
     let v = c.args.seat.now.view in
     let w = c.word-head.new.seat.view in
-    let at = c.args.stand.at in
-    let names = c.requires.stand.0.2 in
+    let at = c.args.path_node.at in
+    let names = c.requires.path_node.0.2 in
     let k = keeps z in
     let same : c.in-Covers.height ≡ at.height = omega arith in
     let found = c.in-Covers.is ∙ ap prefix_matches.Covers same in

@@ -3,7 +3,7 @@ use Rattle.live_law.specs.Levels.{place_at}
 use Rattle.live_law.specs.Views.{View}
 use Rattle.live_reads.specs.Paths.{Keeps}
 use Rattle.live_reads.proofs.Views.{first_word, may_read_open}
-use Rattle.live_scans.proofs.Stands.{known_keeps, known_opened, known_placed, opened_keeps, known_open}
+use Rattle.live_scans.proofs.PathNodes.{known_keeps, known_opened, known_placed, opened_keeps, known_open}
 use Rattle.live_scans.proofs.position.open_known.Goals as goal
 use Rattle.live_scans.proofs.position.open_known.Goals.{After-take-taken, After-word}
 

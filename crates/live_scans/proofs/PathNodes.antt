@@ -11,24 +11,24 @@ use Rattle.live_law.specs.Views.{View}
 use Rattle.live_reads.specs.Paths.{Names, HasOpened, IsOpen, Keeps}
 use Rattle.live_reads.proofs.Views.{reading, reading_keeps, reading_on_keeps, open_read, if_some}
 use Rattle.live_reads.proofs.Finds.{keeps_then, names_kept}
-use Rattle.live_scans.specs.inner.Stops.{IsKnown, IsStand}
+use Rattle.live_scans.specs.inner.Stops.{HasWords, IsPathNode}
 use Rattle.live_scans.specs.declared.position.Position.{Position}
-use Rattle.live_scans.specs.declared.position.Stand.{Stand}
+use Rattle.live_scans.specs.declared.position.PathNode.{PathNode}
 use Rattle.live_scans.proofs.Nexts.{position_on}
 
 abbrev Seen : Type 0
 Seen = SeatView View
 
 -- LATER
-pub known_kept : (v w : Seen) (b b' : Book) (s : Position) (words : List Name) (head : ℕ) → Keeps v w → b' ≡ b → IsKnown v b s words head → IsKnown w b' s words head
+pub known_kept : (v w : Seen) (b b' : Book) (s : Position) (words : List Name) (head : ℕ) → Keeps v w → b' ≡ b → HasWords v b s words head → HasWords w b' s words head
 known_kept v w b b' s words head keeps book k = record {
   names = names_kept v w s.name s.key s.height keeps k.names;
   are = subst (λ (z : Book). AreOf (place_at k.names.spot) z words) (sym book) k.are;
   sure = k.sure;
 }
 
-pub stand_kept : (v w : Seen) (b b' : Book) (s : Stand) → Keeps v w → b' ≡ b → IsStand v b s → IsStand w b' s
-stand_kept v w b b' s keeps book i = (position_on v w s.at keeps i.0, if_some s.known (λ k x. known_kept v w b b' s.at k.words.now k.head keeps book x) i.1)
+pub path_node_kept : (v w : Seen) (b b' : Book) (s : PathNode) → Keeps v w → b' ≡ b → IsPathNode v b s → IsPathNode w b' s
+path_node_kept v w b b' s keeps book i = (position_on v w s.at keeps i.0, if_some s.known (λ k x. known_kept v w b b' s.at k.words.now k.head keeps book x) i.1)
 
 -- BY ANOTHER KEY
 names_like : (v : Seen) (p q : Position) → q.name ≡ p.name → q.height ≡ p.height → up p.height q.key ≡ up p.height p.key → Names v p.name p.key p.height → Names v q.name q.key q.height
@@ -41,22 +41,22 @@ names_like v p q named high same n = record {
   covers = ap (λ (z : ℕ). up z q.key) n.high ∙ (same ∙ (sym (ap (λ (z : ℕ). up z p.key) n.high) ∙ n.covers));
 }
 
-known_like : (v : Seen) (b : Book) (p q : Position) (words : List Name) (head : ℕ) → q.name ≡ p.name → q.height ≡ p.height → up p.height q.key ≡ up p.height p.key → IsKnown v b p words head → IsKnown v b q words head
+known_like : (v : Seen) (b : Book) (p q : Position) (words : List Name) (head : ℕ) → q.name ≡ p.name → q.height ≡ p.height → up p.height q.key ≡ up p.height p.key → HasWords v b p words head → HasWords v b q words head
 unfolding names_like
 known_like v b p q words head named high same k = record { names = names_like v p q named high same k.names; are = k.are; sure = k.sure }
 
-pub stand_like : (v : Seen) (b : Book) (s r : Stand) → r.at.name ≡ s.at.name → r.at.height ≡ s.at.height → r.known ≡ s.known → up s.at.height r.at.key ≡ up s.at.height s.at.key → IsStand v b s → IsStand v b r
-stand_like v b s r named high known same i = (
+pub path_node_like : (v : Seen) (b : Book) (s r : PathNode) → r.at.name ≡ s.at.name → r.at.height ≡ s.at.height → r.known ≡ s.known → up s.at.height r.at.key ≡ up s.at.height s.at.key → IsPathNode v b s → IsPathNode v b r
+path_node_like v b s r named high known same i = (
   (
     subst (λ (z : ℕ). 2 ≤ z) (sym high) i.0.0,
     subst (λ (z : ℕ). z ≤ 8) (sym high) i.0.1,
     names_like v s.at r.at named high same i.0.2,
   ),
-  subst (λ o. IfSome o (λ k. IsKnown v b r.at k.words.now k.head)) (sym known) (if_some s.known (λ k x. known_like v b s.at r.at k.words.now k.head named high same x) i.1),
+  subst (λ o. IfSome o (λ k. HasWords v b r.at k.words.now k.head)) (sym known) (if_some s.known (λ k x. known_like v b s.at r.at k.words.now k.head named high same x) i.1),
 )
 
 -- A NODE whose words are known is opened.
-module _ (v : Seen) (b : Book) (s : Position) (words : List Name) (head : ℕ) (k : IsKnown v b s words head) (key : ℕ) (at_k : (place_at k.names.spot).key ≡ key) (v₁ : Seen) (t : ℕ) (took_it : Takes (reads key) v t none_joined v₁) where
+module _ (v : Seen) (b : Book) (s : Position) (words : List Name) (head : ℕ) (k : HasWords v b s words head) (key : ℕ) (at_k : (place_at k.names.spot).key ≡ key) (v₁ : Seen) (t : ℕ) (took_it : Takes (reads key) v t none_joined v₁) where
   abbrev a : Spot
   a = k.names.spot
 
