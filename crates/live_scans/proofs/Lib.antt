@@ -5,6 +5,7 @@ pub mod Nones
 pub mod Passes
 pub mod Pages
 pub mod Nexts
+pub mod PathNodes
 pub mod Afters
 pub mod Leasts
 pub mod Firsts

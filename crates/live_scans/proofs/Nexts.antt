@@ -1,19 +1,20 @@
 -- The path on from a key below a node.
-use Rattle.std.proofs.Common.{◌≡◌, ◌≢◌, ◌⊎◌, ℕ, zero, suc, ◌+◌, ◌-◌, ◌*◌, ◌%◌, ◌<◌, ◌≤◌, ◌^◌, Bool, true, false, cond, nat_eq, List, [], ◌∷◌, Option, Some, None, refl, sym, ap, ◌∙◌, subst, inl, inr, arith, eq-eqb, ne_eqb}
+use Rattle.std.proofs.Common.{◌≡◌, ◌≢◌, ◌⊎◌, ℕ, zero, suc, ◌+◌, ◌-◌, ◌*◌, ◌%◌, ◌<◌, ◌≤◌, ◌^◌, Bool, true, false, cond, nat_eq, List, [], ◌∷◌, take, drop, Option, Some, None, refl, sym, ap, ◌∙◌, subst, inl, inr, arith, eq-eqb, ne_eqb, append-nil}
 use mathlib.Core.Logic.{dite}
 use native.Mathlib.Decide.{ℕ_discrete}
+use Rattle.std.proofs.lemmas.Option.{same_Some, none-some}
 use Rattle.spec_node.specs.TableNode.{TableNode}
 use Rattle.spec_node.specs.TableNode as table
 use Rattle.spec_node.specs.declared.child.Child.TheVariants.{Payload, Node as Below}
 use Rattle.spec_map.specs.Map.{lookup}
 use Rattle.word_book.specs.Book.{Book, Name, reads, none_joined}
-use Rattle.share_rule.specs.History.{Entry, IsHistory}
+use Rattle.share_rule.specs.History.{Entry, IsHistory, IsLegalHistory}
 use Rattle.live_nodes.specs.Nodes.{Content}
-use Rattle.live_nodes.specs.Seats.{Read, read, SeatView, IsIn, Agree}
+use Rattle.live_nodes.specs.Seats.{Place, Read, read, SeatView, IsIn, Agree}
 use Rattle.live_nodes.specs.Plays as Plays
 use Rattle.live_nodes.specs.Plays.{read_of, Checks}
 use Rattle.live_nodes.specs.Calls.{MayCheck}
-use Rattle.live_nodes.specs.Rows.{AreOf, last_saw, without_reads}
+use Rattle.live_nodes.specs.Rows.{AreOf, last_saw, unread, without_reads}
 use Rattle.live_layout.specs.Words as cells
 use Rattle.live_layout.specs.Head.{IsHead}
 use Rattle.live_layout.specs.Encodes.{IsBelow, IsWord, Encodes}
@@ -31,16 +32,19 @@ use Rattle.live_reads.proofs.Sights.{sights_kept, covers_by}
 use Rattle.live_reads.proofs.Finds.{keeps_then, names_kept, looked_below}
 use Rattle.live_scans.specs.inner.Moments.{SeesMore, HasUnder, IsRead, LearnsAll, HasNone, IsPassed, Reads}
 use Rattle.live_scans.specs.Scans.{HasRead}
-use Rattle.live_scans.specs.inner.Nexts.{IsNear, HasHead, IsNext, IsOutside, Chooses, Turns}
-use Rattle.live_scans.specs.declared.next.Turn.{Turn}
+use Rattle.live_scans.specs.inner.Nexts.{IsNear, HasHead, IsLower, IsNext, IsLeafOpen, IsReadOn, IsOutside, Chooses, Enters, Visits, second_number}
+use Rattle.live_scans.specs.inner.Steps.{IsStep}
+use Rattle.live_scans.specs.declared.bound.Step.{Step}
+use Rattle.live_scans.specs.declared.next.Visit.{Visit}
+use Rattle.live_scans.specs.declared.next.Visit.TheVariants as visits
 use Rattle.live_scans.specs.declared.next.Turn.TheVariants as turns
 use Rattle.live_scans.proofs.Uppers.{up-rises}
-use Rattle.live_scans.proofs.Composed.{none_read, reads_then, reads_since}
-use Rattle.live_scans.specs.inner.Stops.{IsPosition, IsAtLeaf}
+use Rattle.live_scans.proofs.Composed.{none_read, reads_then, reads_since, nothing_between}
+use Rattle.live_scans.specs.inner.Stops.{IsPosition}
 use Rattle.live_scans.specs.declared.position.Position.{Position}
-use Rattle.live_scans.proofs.Passes.{passed_since}
+use Rattle.live_scans.proofs.Passes.{passed_since, step_since}
 use Rattle.live_scans.proofs.Wholes.{node_whole}
-use Rattle.live_scans.proofs.Nones.{covers_like, at_digit}
+use Rattle.live_scans.proofs.Nones.{covers_like, at_digit, is_within}
 
 abbrev Seen : Type 0
 Seen = SeatView View
@@ -222,18 +226,24 @@ module _ {v : Seen} {b : Book} {words : List Name} {t : ℕ} {s : Position} {e :
           let all_reads : w.reads ≡ read c.spot.number t₂ saw₃ ∷ read a.number t saw ∷ n.here.opened.before = w_reads ∙ ap (λ (rs : List Read). read c.spot.number t₂ saw₃ ∷ rs) n.here.opened.reads in
           let by = covers_by d.key fits saw₃ head at_head d.height sees in
           record {
-            names = names_kept v w s.name s.key s.height kw n.here.names;
-            are = subst (λ (z : Book). AreOf (place_at a) z words) (sym book) n.here.opened.are;
-            saw = saw;
-            reads = ap (read_of a.number) all_reads ∙ read_second c.spot.number a.number (read c.spot.number t₂ saw₃) (read a.number t saw) n.here.opened.before refl refl apart;
-            free = n.here.free;
-            sure = n.here.sure;
-            near = n.near;
-            child = record {
-              sighted = let kept = sights_kept v w kw below c in record { spot = kept.spot; met = kept.met; placed = kept.placed; named = called ∙ kept.named };
-              opened = record { are = subst (λ (z : Book). AreOf (place_at c.spot) z words₂) (sym book₂) u.opened.are; saw = saw₃; before = v.reads; reads = w_reads };
-              even = even;
-              head = by;
+            lower = record {
+              names = names_kept v w s.name s.key s.height kw n.here.names;
+              are = subst (λ (z : Book). AreOf (place_at a) z words) (sym book) n.here.opened.are;
+              saw = saw;
+              reads = ap (read_of a.number) all_reads ∙ read_second c.spot.number a.number (read c.spot.number t₂ saw₃) (read a.number t saw) n.here.opened.before refl refl apart;
+              second = ap second_number all_reads;
+              free = n.here.free;
+              sure = n.here.sure;
+              near = n.near;
+              child = record {
+                sighted = let kept = sights_kept v w kw below c in record { spot = kept.spot; met = kept.met; placed = kept.placed; named = called ∙ kept.named };
+                opened = record { are = subst (λ (z : Book). AreOf (place_at c.spot) z words₂) (sym book₂) u.opened.are; saw = saw₃; before = v.reads; reads = w_reads };
+                even = even;
+                head = by;
+              };
+              apart = λ same. apart (sym same);
+              low_byte = u.low_byte;
+              is_child = λ name is. u.is_child name is ∙ sym called;
             };
             watch = watched;
             known = subst (λ (z : Seen). IsIn watched z.client.watched) (sym h.2) (subst (λ (z : View). IsIn watched z.watched) (sym x.watches) (inl refl));
@@ -244,8 +254,208 @@ module _ {v : Seen} {b : Book} {words : List Name} {t : ℕ} {s : Position} {e :
             covers = (by c.spot x.shape x.is).1;
           }
 
+-- WHERE IT IS KNOWN of an open node and its child, which is open, too
+-- the read of the node above
+read_later : (j k : ℕ) (r : Read) (rs : List Read) (o : Option Read) → r.number ≡ j → j ≢ k → read_of k (r ∷ rs) ≡ o → read_of k rs ≡ o
+read_later j k r rs o is ne e = sym (ap (λ (b : Bool). cond b (Some r) (read_of k rs)) (ne_eqb k r.number (λ same. ne (sym is ∙ sym same)))) ∙ e
+
+read_sooner : (j k : ℕ) (r : Read) (rs : List Read) (o : Option Read) → r.number ≡ j → j ≢ k → read_of k rs ≡ o → read_of k (r ∷ rs) ≡ o
+read_sooner j k r rs o is ne e = ap (λ (b : Bool). cond b (Some r) (read_of k rs)) (ne_eqb k r.number (λ same. ne (sym is ∙ sym same))) ∙ e
+
+read_or : (b : Bool) (s r : Read) (rs : List Read) (o : Option Read) → (o ≡ Some r → IsIn r rs) → cond b (Some s) o ≡ Some r → IsIn r (s ∷ rs)
+read_or true s r rs o there e = inl (same_Some s r e)
+read_or false s r rs o there e = inr (there e)
+
+read_there : (k : ℕ) (rs : List Read) (r : Read) → read_of k rs ≡ Some r → IsIn r rs
+read_there k [] r e = absurd (none-some r e)
+read_there k (s ∷ rs) r e = read_or (nat_eq k s.number) s r rs (read_of k rs) (read_there k rs r) e
+
+-- it is so where the seat has read the same, and knows as much
+pub lower_kept : (v w : Seen) (b b' : Book) (words : List Name) (t : ℕ) (s : Position) (e : ℕ × ℕ) (d : Position) (others : List Name) (other : ℕ) → b' ≡ b → Keeps v w → w.reads ≡ v.reads → IsLower v b words t s e d others other → IsLower w b' words t s e d others other
+lower_kept v w b b' words t s e d others other book keeps same f =
+    let c = f.child in record {
+      names = names_kept v w s.name s.key s.height keeps f.names;
+      are = subst (λ (z : Book). AreOf (place_at f.names.spot) z words) (sym book) f.are;
+      saw = f.saw;
+      reads = ap (read_of f.names.spot.number) same ∙ f.reads;
+      second = ap second_number same ∙ f.second;
+      free = f.free;
+      sure = f.sure;
+      near = f.near;
+      child = record {
+        sighted = sights_kept v w keeps d.name c.sighted;
+        opened = record { are = subst (λ (z : Book). AreOf (place_at c.sighted.spot) z others) (sym book) c.opened.are; saw = c.opened.saw; before = c.opened.before; reads = same ∙ c.opened.reads };
+        even = c.even;
+        head = c.head;
+      };
+      apart = f.apart;
+      low_byte = f.low_byte;
+      is_child = f.is_child;
+    }
+
+-- more was read of the child
+taken_of : Read → List Read → ℕ × ℕ
+taken_of d [] = (d.number, d.word)
+taken_of d (r ∷ rs) = (r.number, r.word)
+
+others_of : List Read → List Read
+others_of [] = []
+others_of (r ∷ rs) = rs
+
+unread_is : (xs : List Read) (k n : ℕ) (ys : List Read) → unread xs ≡ read k n [] ∷ ys → xs ≡ read k n (last_saw xs) ∷ ys
+unfolding taken_of others_of
+unread_is [] k n ys e = absurd (let x : [] ≡ read k n [] ∷ ys = e in cc)
+unread_is (x ∷ xs) k n ys e = λ i. read (taken_of x (e i)).0 (taken_of x (e i)).1 x.saw ∷ others_of (e i)
+
+unread_on : (rs xs : List Read) (k n : ℕ) (old : List (ℕ × ℕ)) → unread xs ≡ unread rs → (ys : List Read) → rs ≡ read k n old ∷ ys → xs ≡ read k n (last_saw xs) ∷ ys
+unread_on rs xs k n old e ys is = unread_is xs k n ys (e ∙ ap unread is)
+
+unread_second : (xs : List Read) → second_number (unread xs) ≡ second_number xs
+unread_second [] = refl
+unread_second (x ∷ xs) = refl
+
+pub lower_read : (v w : Seen) (b b' : Book) (words : List Name) (t : ℕ) (s : Position) (e : ℕ × ℕ) (d : Position) (others : List Name) (other : ℕ) → b' ≡ b → Keeps v w → IsReadOn v.reads w.reads → IsLower v b words t s e d others other → IsLower w b' words t s e d others other
+lower_read v w b b' words t s e d others other book keeps on f =
+    let c = f.child in
+    let k : ℕ = c.sighted.spot.number in
+    let home : ℕ = f.names.spot.number in
+    let w_reads : w.reads ≡ read k other (last_saw w.reads) ∷ c.opened.before = unread_on v.reads w.reads k other c.opened.saw on.0 c.opened.before c.opened.reads in
+    let above = Some (read home t f.saw) in
+    let before : read_of home c.opened.before ≡ above = read_later k home (read k other c.opened.saw) c.opened.before above refl f.apart (sym (ap (read_of home) c.opened.reads) ∙ f.reads) in
+    let kept : (x : Content) → Agree x (last_saw w.reads) → Agree x c.opened.saw = λ x agrees. subst (Agree x) (ap last_saw c.opened.reads) (on.1 x agrees) in record {
+      names = names_kept v w s.name s.key s.height keeps f.names;
+      are = subst (λ (z : Book). AreOf (place_at f.names.spot) z words) (sym book) f.are;
+      saw = f.saw;
+      reads = ap (read_of home) w_reads ∙ read_sooner k home (read k other (last_saw w.reads)) c.opened.before above refl f.apart before;
+      second = sym (unread_second w.reads) ∙ (ap second_number on.0 ∙ (unread_second v.reads ∙ f.second));
+      free = f.free;
+      sure = f.sure;
+      near = f.near;
+      child = record {
+        sighted = sights_kept v w keeps d.name c.sighted;
+        opened = record { are = subst (λ (z : Book). AreOf (place_at c.sighted.spot) z others) (sym book) c.opened.are; saw = last_saw w.reads; before = c.opened.before; reads = w_reads };
+        even = c.even;
+        head = λ a shape is. c.head a shape record {
+          now = is.now;
+          content = is.content;
+          its = is.its;
+          agrees = kept is.content is.agrees;
+          encodes = is.encodes;
+          in_form = is.in_form;
+          deep = is.deep;
+          prefixed = is.prefixed;
+        };
+      };
+      apart = f.apart;
+      low_byte = f.low_byte;
+      is_child = f.is_child;
+    }
+
+-- by another key of the child
+pub lower_as : (v : Seen) (b : Book) (words : List Name) (t : ℕ) (s : Position) (e : ℕ × ℕ) (d c : Position) (others : List Name) (other : ℕ) → c.name ≡ d.name → c.height ≡ d.height → up d.height c.key ≡ up d.height d.key → IsLower v b words t s e d others other → IsLower v b words t s e c others other
+lower_as v b words t s e d c others other named high same f =
+    let h = f.child in record {
+      names = f.names;
+      are = f.are;
+      saw = f.saw;
+      reads = f.reads;
+      second = f.second;
+      free = f.free;
+      sure = f.sure;
+      near = f.near;
+      child = record {
+        sighted = record { spot = h.sighted.spot; met = h.sighted.met; placed = h.sighted.placed; named = named ∙ h.sighted.named };
+        opened = h.opened;
+        even = h.even;
+        head = λ a shape is.
+            let by = h.head a shape is in
+            (by.0 ∙ sym high, ap (λ (z : ℕ). up z c.key) by.0 ∙ (same ∙ (sym (ap (λ (z : ℕ). up z d.key) by.0) ∙ by.1)));
+      };
+      apart = f.apart;
+      low_byte = f.low_byte;
+      is_child = λ name is. f.is_child name is ∙ sym named;
+    }
+
+-- the child is a leaf
+pub leaf_of : (v : Seen) (b : Book) (d : Position) (others : List Name) (other key : ℕ) → d.height ≡ 1 → key ≡ d.key → HasHead v b d others other → IsLeafOpen v b others other d.name key
+leaf_of v b d others other key low is h = record {
+  sighted = h.sighted;
+  opened = h.opened;
+  even = h.even;
+  leaf = λ shape of. let by = h.head h.sighted.spot shape of in (by.0 ∙ low, subst (λ (z : ℕ). up shape.height z ≡ shape.top) (sym is) by.1);
+}
+
+-- THE CHILD is checked again, and watched.
+module _ (v : Seen) (b : Book) (words : List Name) (t : ℕ) (s : Position) (e : ℕ × ℕ) (d : Position) (others : List Name) (other : ℕ) (f : IsLower v b words t s e d others other) (high : 2 ≤ s.height) (k : ℕ) (at_k : (place_at f.child.sighted.spot).key ≡ k) where
+  abbrev under : Spot
+  under = f.child.sighted.spot
+
+  abbrev top : Spot
+  top = f.names.spot
+
+  abbrev there : HasOpened v b others other under
+  there = f.child.opened
+
+  abbrev saw_below : List (ℕ × ℕ)
+  saw_below = last_saw v.reads
+
+  abbrev Learns : View → ℕ → ℕ → List (ℕ × ℕ) → List Place → View → Type 0
+  Learns = LearnsBelow top.number (Some t)
+
+  had_below : HadBelow top (read top.number t f.saw) e.0 e.1
+  had_below shape is =
+      let same : shape.height ≡ s.height = ap (λ (z : Shape). z.height) (f.sure shape is) ∙ f.names.high in
+      let x = f.near is.content is.its is.agrees is.encodes is.in_form in
+      (omega (arith, same, high), x.1)
+
+  pub may_watch_again : (id m l : ℕ) → other ≡ 4 * m → t ≡ 4 * l → MayCheck v k IsMap id Learns other
+  may_watch_again id m l even free =
+      let above = Some (read top.number t f.saw) in
+      let before : read_of top.number there.before ≡ above = read_later under.number top.number (read under.number other there.saw) there.before above refl f.apart (sym (ap (read_of top.number) there.reads) ∙ f.reads) in
+      may_check_open v b others other under f.child.sighted.placed there v refl k at_k Learns id
+      (node_below id v.client under f.child.sighted.met other saw_below m even (read under.number other saw_below ∷ there.before)
+      top f.names.met (read top.number t f.saw) (inr (read_there top.number there.before (read top.number t f.saw) before)) refl l free
+      e.0 f.low_byte e.1 had_below (λ name is. f.is_child name is ∙ f.child.sighted.named))
+
+  module _ (w : Seen) (m : ℕ) (told : Checks Learns (reads k) v m none_joined w) where
+    again_checked : Plays.Checked (Learns v.client under.number other saw_below) other (reading_on v there.before under.number other saw_below) m w
+    again_checked = open_checked v b others other under f.child.sighted.placed there v refl k at_k Learns w m told
+
+    pub again_missed : m ≢ other → Keeps v w × (w.client ≡ v.client)
+    again_missed ne = open_missed v b others other under f.child.sighted.placed there v refl k at_k Learns w m told ne
+
+    module _ (hit : m ≡ other) where
+      pub again_keeps : Keeps v w × (w.client.seen ≡ v.client.seen)
+      again_keeps =
+          let h = again_checked.hit hit in
+          let x : Watches top.number (Some t) v.client under saw_below h.1 = h.3 under f.child.sighted.met refl in (
+            learned_keeps v w h.0 h.1 (read under.number other saw_below ∷ there.before) h.2 (λ z in_it. subst (λ (y : View). IsIn z y.met) (sym x.watches) in_it) (ap (λ (y : View). y.own) x.watches),
+            ap (λ (z : Seen). z.client.seen) h.2 ∙ ap (λ (z : View). z.seen) x.watches,
+          )
+
+      pub again_next : (b' : Book) → b' ≡ b → IsNext w b' words t s e d others other
+      unfolding lower_kept
+      again_next b' book =
+          let h = again_checked.hit hit in
+          let x : Watches top.number (Some t) v.client under saw_below h.1 = h.3 under f.child.sighted.met refl in
+          let is = open_read v b others other under f.child.sighted.placed there v refl in
+          let watched = watch top.number (Some t) (spot under.number x.shape) in
+          let by = f.child.head under x.shape (subst (IsOf under x.shape) (ap last_saw there.reads) x.is) in record {
+            lower = lower_kept v w b b' words t s e d others other book again_keeps.0 (ap (λ (z : Seen). z.reads) h.2 ∙ sym (ap (λ (z : Seen). z.reads) is)) f;
+            watch = watched;
+            known = subst (λ (z : Seen). IsIn watched z.client.watched) (sym h.2) (subst (λ (z : View). IsIn watched z.watched) (sym x.watches) (inl refl));
+            above = refl;
+            free_by = refl;
+            spells = λ name word. f.is_child name word ∙ (f.child.sighted.named ∙ sym (same_named under x.shape x.is.now));
+            low_is = by.0;
+            covers = by.1;
+          }
+
 -- The node above is checked again: nothing else is below it.
-module _ (v : Seen) (b : Book) (words : List Name) (t : ℕ) (s : Position) (e : ℕ × ℕ) (d : Position) (others : List Name) (other : ℕ) (f : IsNext v b words t s e d others other) (k : ℕ) (at_k : (place_at f.names.spot).key ≡ k) (caller : ℕ) where
+module _ (v : Seen) (b : Book) (words : List Name) (t : ℕ) (s : Position) (e : ℕ × ℕ) (d : Position) (others : List Name) (other : ℕ) (n : IsNext v b words t s e d others other) (k : ℕ) (at_k : (place_at n.lower.names.spot).key ≡ k) (caller : ℕ) where
+  abbrev f : IsLower v b words t s e d others other
+  f = n.lower
+
   abbrev home : Spot
   home = f.names.spot
 
@@ -273,15 +483,8 @@ module _ (v : Seen) (b : Book) (words : List Name) (t : ℕ) (s : Position) (e :
       pub still_keeps : Keeps v w × SeesMore w.client.seen caller v.client.seen
       still_keeps = (still_read.0, still_read.1.fits)
 
-      pub still_head : (b' : Book) → b' ≡ b → HasHead w b' d others other
-      still_head b' book =
-          let h = still_checked.hit hit in
-          let c = f.child in record {
-            sighted = sights_kept v w still_read.0 d.name c.sighted;
-            opened = record { are = subst (λ (z : Book). AreOf (place_at c.sighted.spot) z others) (sym book) c.opened.are; saw = c.opened.saw; before = c.opened.before; reads = ap (λ (z : Seen). z.reads) h.2 ∙ c.opened.reads };
-            even = c.even;
-            head = c.head;
-          }
+      pub still_lower : (b' : Book) → b' ≡ b → IsLower w b' words t s e d others other
+      still_lower b' book = lower_kept v w b b' words t s e d others other book still_read.0 (ap (λ (z : Seen). z.reads) (still_checked.hit hit).2) f
 
       -- what is under home byte
       module _ (high : 2 ≤ s.height) where
@@ -296,8 +499,8 @@ module _ (v : Seen) (b : Book) (words : List Name) (t : ℕ) (s : Position) (e :
         under_node zero k (Some y) tall kind is apart u = absurd kind
         under_node (suc zero) k (Some y) tall kind is apart u = absurd (omega (arith, tall))
         under_node (suc (suc h)) k (Some (Payload y)) tall kind is apart u = absurd kind
-        under_node (suc (suc h)) k (Some (Below name)) tall kind is apart u = u f.watch f.known f.above f.free_by (f.spells name is)
-            (λ covers. apart (subst (λ (z : ℕ). up z k ≡ up z d.key) f.low_is (covers ∙ sym f.covers)))
+        under_node (suc (suc h)) k (Some (Below name)) tall kind is apart u = u n.watch n.known n.above n.free_by (n.spells name is)
+            (λ covers. apart (subst (λ (z : ℕ). up z k ≡ up z d.key) n.low_is (covers ∙ sym n.covers)))
 
         pub none_outside : HasNone caller v w (IsOutside s e.0 d)
         none_outside = record {
@@ -353,32 +556,6 @@ none_to id v w w' Is same n = record {
   none = n.none;
 }
 
-pub turns_of : (id : ℕ) (u w : Seen) (s : Position) (byte : ℕ) (d : Position) (o : Option Turn) → HasNone id u w (IsOutside s byte d) → Names w d.name d.key d.height → Chooses s byte d o → Turns id u w s o
-turns_of id u w s byte d None n at h = tt
-turns_of id u w s byte d (Some (turns.Past last)) n at h = record {
-  order = h.0;
-  seam = h.1;
-  reads = none_read true id u w (IsOutside s byte d) s.key (last + 1) n h.2;
-}
-turns_of id u w s byte d (Some (turns.Goes c)) n at h =
-    let high = h.1 in
-    let some = h.2 in
-    let lower = h.3 in (
-      omega (arith, high, some),
-      omega (arith, high, lower),
-      h.4,
-      h.5,
-      record {
-        spot = at.spot;
-        met = at.met;
-        placed = at.placed;
-        named = h.0 ∙ at.named;
-        high = at.high ∙ sym high;
-        covers = ap (λ (z : ℕ). up z c.key) at.high ∙ (h.6 ∙ (ap (λ (z : ℕ). up z d.key) (sym at.high) ∙ at.covers));
-      },
-      none_read true id u w (IsOutside s byte d) s.key c.key n h.7,
-    )
-
 -- by another key
 pub names_as : (v : Seen) (name key k height : ℕ) → up height k ≡ up height key → Names v name key height → Names v name k height
 names_as v name key k height same n = record {
@@ -394,6 +571,7 @@ pub seams : (a b c : ℕ) → (b % 256 ≡ 0) ⊎ (a ≡ b) → (c % 256 ≡ 0) 
 seams a b c first then = elim then [ inl whole ↦ inl whole | inr same ↦ elim first [ inl whole ↦ inl (omega (arith, whole, same)) | inr again ↦ inr (again ∙ same) ] ]
 
 -- ON FROM NODE TO NODE
+-- after keys that aren't there
 pub passed_on : (c id : ℕ) (u v w : Seen) (key from last : ℕ) → c ≡ id → SeesMore v.client.seen id u.client.seen → HasRead true u.client.seen v.client.seen key from [] → key ≤ from → (from % 256 ≡ 0) ⊎ (key ≡ from) → IsPassed true c v w from last → IsPassed true id u w key last
 passed_on c id u v w key from last is seen read low seam p =
     let on = p.order in record {
@@ -402,42 +580,106 @@ passed_on c id u v w key from last is seen read low seam p =
       reads = reads_then c id u v w key from (last + 1) [] [] is seen read p.reads low (omega (arith, on)) seam;
     }
 
-pub reads_on_then : (c id : ℕ) (u v w : Seen) (key from to : ℕ) → c ≡ id → SeesMore v.client.seen id u.client.seen → HasRead true u.client.seen v.client.seen key from [] → key ≤ from → (from % 256 ≡ 0) ⊎ (key ≡ from) → from ≤ to → Reads true c v w from to [] → Reads true id u w key to []
-reads_on_then c id u v w key from to is seen read low seam on r = reads_then c id u v w key from to [] [] is seen read r low on seam
+pub step_on : (c id : ℕ) (u v w : Seen) (key from limit start count last : ℕ) (buffer : List (ℕ × ℕ)) → c ≡ id → SeesMore v.client.seen id u.client.seen → HasRead true u.client.seen v.client.seen key from [] → key ≤ from → (from % 256 ≡ 0) ⊎ (key ≡ from) → IsStep true c v w from limit start buffer count last → IsStep true id u w key limit start buffer count last
+step_on c id u v w key from limit start count last buffer is seen read low seam s =
+    let on = s.order in record {
+      order = omega (arith, low, on);
+      within = s.within;
+      from = s.from;
+      few = s.few;
+      small = s.small;
+      seam = s.seam;
+      reads = reads_then c id u v w key from (last + 1) [] (drop start (take count buffer)) is seen read s.reads low (omega (arith, on)) seam;
+    }
 
-pub turns_since : (c id : ℕ) (u v w : Seen) (s : Position) (o : Option Turn) → c ≡ id → SeesMore v.client.seen id u.client.seen → Turns c v w s o → Turns id u w s o
-turns_since c id u v w s None is seen t = tt
-turns_since c id u v w s (Some (turns.Past last)) is seen t = passed_since true c id u v w s.key last is seen t
-turns_since c id u v w s (Some (turns.Goes d)) is seen t = (t.0, t.1, t.2, t.3, t.4, reads_since true c id u v w s.key d.key [] is seen t.5)
+-- behind a leaf
+pub rest_step : (c id : ℕ) (u v w : Seen) (key limit start count last to : ℕ) (buffer : List (ℕ × ℕ)) → IsStep true id u v key limit start buffer count last → (last + 1) % 256 ≡ 0 → c ≡ id → SeesMore v.client.seen id u.client.seen → Reads true c v w (last + 1) (to + 1) [] → last ≤ to → to ≤ limit → ((to + 1) % 256 ≡ 0) ⊎ (to ≡ limit) → IsStep true id u w key limit start buffer count to
+rest_step c id u v w key limit start count last to buffer s whole is seen rest on within ends =
+    let low = s.order in
+    let ps = drop start (take count buffer) in record {
+      order = omega (arith, low, on);
+      within = within;
+      from = s.from;
+      few = s.few;
+      small = s.small;
+      seam = λ left ne. elim ends [ inl e ↦ e | inr same ↦ absurd (ne same) ];
+      reads = subst (Reads true id u w key (to + 1)) (append-nil ps) (reads_then c id u v w key (last + 1) (to + 1) ps [] is seen s.reads.read rest (omega (arith, low)) (omega (arith, on)) (inl whole));
+    }
 
--- a turn on the path of a reader
-pub turned_past : (c id : ℕ) (u v w : Seen) (key : ℕ) (s : Position) (last : ℕ) (o : Option Turn) → c ≡ id → SeesMore v.client.seen id u.client.seen → HasRead true u.client.seen v.client.seen key s.key [] → key ≤ s.key → (s.key % 256 ≡ 0) ⊎ (key ≡ s.key) → Turns c v w s o → o ≡ Some (turns.Past last) → IsPassed true id u w key last
-turned_past c id u v w key s last o is seen read low seam t e = passed_on c id u v w key s.key last is seen read low seam (subst (Turns c v w s) e t)
+-- no more keys
+pub none_more : (c : ℕ) (v w : Seen) (from : ℕ) → IsLegalHistory nat_eq v.client.seen → SeesMore w.client.seen c v.client.seen → Reads true c v w from from []
+none_more c v w from legal seen = record { fits = seen; legal = seen.legal legal; read = nothing_between true v.client.seen w.client.seen from from (omega arith) }
 
-pub record HasTurned (id : ℕ) (u w : Seen) (key height : ℕ) (d : Position) : Type 0 where
-  pub some : 1 ≤ d.height
+-- where no key is outside a leaf
+pub none_behind : (id : ℕ) (v w : Seen) (s d : Position) (byte last to upto : ℕ) → HasNone id v w (IsOutside s byte d) → 2 ≤ s.height → byte < 256 → up (s.height - 1) to ≡ 256 * up s.height s.key + byte → d.height ≡ 1 → s.key ≤ d.key → d.key ≤ last → (last + 1) % 256 ≡ 0 → upto ≤ to → Reads true id v w (last + 1) (upto + 1) []
+none_behind id v w s d byte last to upto n high low_byte is leaf before on whole near = none_read true id v w (IsOutside s byte d) (last + 1) (upto + 1) n
+    (λ k from end. (
+      is_within s.height s.key to byte k (omega (arith, high)) low_byte is (omega (arith, before, on, from)) (omega (arith, end, near)),
+      λ same. let e : up 1 k ≡ up 1 d.key = subst (λ (z : ℕ). up z k ≡ up z d.key) leaf same in omega (arith, e, on, from, whole),
+    ))
+
+-- from an earlier view on
+pub visits_since : (c id : ℕ) (u v w : Seen) (s : Position) (limit start : ℕ) (buffer : List (ℕ × ℕ)) (o : Option Visit) → c ≡ id → SeesMore v.client.seen id u.client.seen → Visits c v w s limit start buffer o → Visits id u w s limit start buffer o
+visits_since c id u v w s limit start buffer None is seen t = tt
+visits_since c id u v w s limit start buffer (Some (visits.Past last)) is seen t = passed_since true c id u v w s.key last is seen t
+visits_since c id u v w s limit start buffer (Some (visits.Goes d)) is seen t = (t.0, t.1, t.2, t.3, t.4, t.5, reads_since true c id u v w s.key d.key [] is seen t.6)
+visits_since c id u v w s limit start buffer (Some (visits.Read step)) is seen t = step_since true c id u v w s.key limit start step.count step.last buffer is seen t
+
+-- none is up to a limit, where the child is behind it
+pub passed_before : (id : ℕ) (u w : Seen) (s : Position) (byte : ℕ) (d n : Position) (limit : ℕ) → HasNone id u w (IsOutside s byte d) → Chooses s byte d (Some (turns.Goes n)) → s.key ≤ limit → limit < n.key → IsPassed true id u w s.key (n.key - 1)
+passed_before id u w s byte d n limit none h low behind =
+    let back : n.key - 1 + 1 ≡ n.key = omega (arith, behind) in record {
+      order = omega (arith, low, behind);
+      seam = elim h.5 [ inl whole ↦ subst (λ (z : ℕ). z % 256 ≡ 0) (sym back) whole | inr same ↦ absurd (omega (arith, same, low, behind)) ];
+      reads = subst (λ (z : ℕ). Reads true id u w s.key z []) (sym back) (none_read true id u w (IsOutside s byte d) s.key n.key none h.7);
+    }
+
+-- a node is entered after the keys before it
+pub visits_of : (c id : ℕ) (u v w : Seen) (s : Position) (byte : ℕ) (d n : Position) (limit start : ℕ) (buffer : List (ℕ × ℕ)) (o : Option Visit) → c ≡ id → HasNone id u v (IsOutside s byte d) → Chooses s byte d (Some (turns.Goes n)) → n.key ≤ limit → Enters c v w n limit start buffer o → Visits id u w s limit start buffer o
+visits_of c id u v w s byte d n limit start buffer None is none h within e = tt
+visits_of c id u v w s byte d n limit start buffer (Some (visits.Past last)) is none h within e = absurd e
+visits_of c id u v w s byte d n limit start buffer (Some (visits.Goes m)) is none h within e =
+    let lower = h.3 in
+    let high = h.1 in
+    let reads = none_read true id u w (IsOutside s byte d) s.key n.key (none_to id u v w (IsOutside s byte d) e.3 none) h.7 in
+    subst (λ (z : Position). Visits id u w s limit start buffer (Some (visits.Goes z))) (sym e.0)
+    (e.1, omega (arith, lower, high), h.4, within, h.5, e.2, reads)
+visits_of c id u v w s byte d n limit start buffer (Some (visits.Read step)) is none h within e =
+    let reads = none_read true id u v (IsOutside s byte d) s.key n.key none h.7 in
+    step_on c id u v w s.key n.key limit start step.count step.last buffer is reads.fits reads.read h.4 h.5 e
+
+-- a visit on the path of a reader
+pub visited_past : (c id : ℕ) (u v w : Seen) (key : ℕ) (s : Position) (limit start : ℕ) (buffer : List (ℕ × ℕ)) (last : ℕ) (o : Option Visit) → c ≡ id → SeesMore v.client.seen id u.client.seen → HasRead true u.client.seen v.client.seen key s.key [] → key ≤ s.key → (s.key % 256 ≡ 0) ⊎ (key ≡ s.key) → Visits c v w s limit start buffer o → o ≡ Some (visits.Past last) → IsPassed true id u w key last
+visited_past c id u v w key s limit start buffer last o is seen read low seam t e = passed_on c id u v w key s.key last is seen read low seam (subst (Visits c v w s limit start buffer) e t)
+
+pub visited_read : (c id : ℕ) (u v w : Seen) (key : ℕ) (s : Position) (limit start : ℕ) (buffer : List (ℕ × ℕ)) (step : Step) (o : Option Visit) → c ≡ id → SeesMore v.client.seen id u.client.seen → HasRead true u.client.seen v.client.seen key s.key [] → key ≤ s.key → (s.key % 256 ≡ 0) ⊎ (key ≡ s.key) → Visits c v w s limit start buffer o → o ≡ Some (visits.Read step) → IsStep true id u w key limit start buffer step.count step.last
+visited_read c id u v w key s limit start buffer step o is seen read low seam t e = step_on c id u v w key s.key limit start step.count step.last buffer is seen read low seam (subst (Visits c v w s limit start buffer) e t)
+
+pub record HasGone (id : ℕ) (u w : Seen) (key height limit : ℕ) (d : Position) : Type 0 where
+  pub some : 2 ≤ d.height
   pub lower : d.height < height
   pub low : key ≤ d.key
+  pub within : d.key ≤ limit
   pub seam : (d.key % 256 ≡ 0) ⊎ (key ≡ d.key)
   pub names : Names w d.name d.key d.height
   pub reads : Reads true id u w key d.key []
 
-pub turned_to : (c id : ℕ) (u v w : Seen) (key : ℕ) (s d : Position) (o : Option Turn) → c ≡ id → SeesMore v.client.seen id u.client.seen → HasRead true u.client.seen v.client.seen key s.key [] → key ≤ s.key → (s.key % 256 ≡ 0) ⊎ (key ≡ s.key) → Turns c v w s o → o ≡ Some (turns.Goes d) → HasTurned id u w key s.height d
-turned_to c id u v w key s d o is seen read low seam t e =
-    let g = subst (Turns c v w s) e t in
+pub visited_to : (c id : ℕ) (u v w : Seen) (key : ℕ) (s d : Position) (limit start : ℕ) (buffer : List (ℕ × ℕ)) (o : Option Visit) → c ≡ id → SeesMore v.client.seen id u.client.seen → HasRead true u.client.seen v.client.seen key s.key [] → key ≤ s.key → (s.key % 256 ≡ 0) ⊎ (key ≡ s.key) → Visits c v w s limit start buffer o → o ≡ Some (visits.Goes d) → HasGone id u w key s.height limit d
+visited_to c id u v w key s d limit start buffer o is seen read low seam t e =
+    let g = subst (Visits c v w s limit start buffer) e t in
     let on = g.2 in record {
       some = g.0;
       lower = g.1;
       low = omega (arith, low, on);
-      seam = seams key s.key d.key seam g.3;
-      names = g.4;
-      reads = reads_on_then c id u v w key s.key d.key is seen read low seam g.2 g.5;
+      within = g.3;
+      seam = seams key s.key d.key seam g.4;
+      names = g.5;
+      reads = reads_then c id u v w key s.key d.key [] [] is seen read g.6 low g.2 seam;
     }
 
 pub position_on : (v w : Seen) (s : Position) → Keeps v w → IsPosition v s → IsPosition w s
 position_on v w s keeps i = (i.0, i.1, names_kept v w s.name s.key s.height keeps i.2)
 
--- a part of the leaf at which a reader is
-pub leaf_named : (up : Bool) (id : ℕ) (u w : Seen) (key name at base first last : ℕ) → IsAtLeaf up id u w key name at → base % 256 ≡ 0 → base + cond up first last ≡ at → first ≤ last → last ≤ 255 → Names w name (base + first) 1
-leaf_named true id u w key name at base first last r whole is order high = subst (λ (z : ℕ). Names w name z 1) (sym is) r.2
-leaf_named false id u w key name at base first last r whole is order high = names_as w name at (base + first) 1 (omega (arith, whole, is, order, high)) r.1
+-- the leaf of a key, by a part of it
+pub leaf_named : (w : Seen) (key name base first last : ℕ) → Names w name key 1 → base % 256 ≡ 0 → base + last ≡ key → first ≤ last → last ≤ 255 → Names w name (base + first) 1
+leaf_named w key name base first last n whole is order high = names_as w name key (base + first) 1 (omega (arith, whole, is, order, high)) n

@@ -8,7 +8,7 @@ use Rattle.live_nodes.specs.Seats.{SeatView}
 use Rattle.live_layout.specs.Encodes.{IsBelow, payload_of}
 use Rattle.live_layout.specs.Order.{HasNearest}
 use Rattle.live_layout.specs.Page.{AreListed}
-use Rattle.live_law.specs.Levels.{up, digit, Covers}
+use Rattle.live_law.specs.Levels.{up, digit, Covers, Shape, Spot}
 use Rattle.live_law.specs.Views.{View}
 use Rattle.live_law.specs.Tree.{IsOfKind}
 use Rattle.live_law.proofs.Plans.{bytes_above-key, joined, digit-low}
@@ -83,19 +83,19 @@ leaf_value v number word m k (Some (Payload x)) kind u = sym u
 leaf_value v number word m k (Some (Below s)) kind u = absurd kind
 
 -- what the map has at a key of the leaf
-pub value_at : (id : ℕ) (v w : Seen) (name base from to : ℕ) (n : Names v name (base + from) 1) (word : ℕ) (saw : List (ℕ × ℕ)) (x : IsRead id v.client n.spot n.spot.shape word saw w.client) → base % 256 ≡ 0 → from ≤ 255 → to ≤ 255 → (k : ℕ) → base ≤ k → k < base + to + 1 → payload_of (lookup x.node.its.children (k - base)) ≡ lookup x.pairs k
-value_at id v w name base from to n word saw x whole small high k lk hk =
+pub value_at : (id : ℕ) (v w : Seen) (a : Spot) (s : Shape) (base from to : ℕ) → s.height ≡ 1 → Covers s (base + from) → (word : ℕ) (saw : List (ℕ × ℕ)) (x : IsRead id v.client a s word saw w.client) → base % 256 ≡ 0 → from ≤ 255 → to ≤ 255 → (k : ℕ) → base ≤ k → k < base + to + 1 → payload_of (lookup x.node.its.children (k - base)) ≡ lookup x.pairs k
+value_at id v w a s base from to high_is covers_it word saw x whole small high k lk hk =
     let b : ℕ = k - base in
     let is : base + b ≡ k = omega (arith, lk) in
     let up1 : up 1 k ≡ up 1 (base + from) = omega (arith, whole, lk, hk, high, small) in
     let dig : digit 1 k ≡ b = omega (arith, whole, lk, hk, high) in
-    let covers : Covers n.spot.shape k = subst (λ (z : ℕ). up z k ≡ up z (base + from)) (sym n.high) up1 ∙ n.covers in
-    let kind : IsOfKind 1 (lookup x.node.its.children b) = subst (λ (z : ℕ). IsOfKind z (lookup x.node.its.children b)) n.high (x.of_kind b (omega (arith, hk, high, is))) in
-    let under : HasUnder v.client n.spot.number word x.pairs k (lookup x.node.its.children b) = subst (λ (z : ℕ). HasUnder v.client n.spot.number word x.pairs k (lookup x.node.its.children z)) (ap (λ (z : ℕ). digit z k) n.high ∙ dig) (x.under k covers) in
-    leaf_value v.client n.spot.number word x.pairs k (lookup x.node.its.children b) kind under
+    let covers : Covers s k = subst (λ (z : ℕ). up z k ≡ up z (base + from)) (sym high_is) up1 ∙ covers_it in
+    let kind : IsOfKind 1 (lookup x.node.its.children b) = subst (λ (z : ℕ). IsOfKind z (lookup x.node.its.children b)) high_is (x.of_kind b (omega (arith, hk, high, is))) in
+    let under : HasUnder v.client a.number word x.pairs k (lookup x.node.its.children b) = subst (λ (z : ℕ). HasUnder v.client a.number word x.pairs k (lookup x.node.its.children z)) (ap (λ (z : ℕ). digit z k) high_is ∙ dig) (x.under k covers) in
+    leaf_value v.client a.number word x.pairs k (lookup x.node.its.children b) kind under
 
-pub leaf_reads : (up : Bool) (id : ℕ) (v w : Seen) (name base first from to : ℕ) (n : Names v name (base + first) 1) (word : ℕ) (saw : List (ℕ × ℕ)) (x : IsRead id v.client n.spot n.spot.shape word saw w.client) (ps : Pairs ℕ) → base % 256 ≡ 0 → first ≤ 255 → to ≤ 255 → AreListed x.node.its base from (to + 1) ps → Reads up id v w (base + from) (base + to + 1) ps
-leaf_reads up id v w name base first from to n word saw x ps whole low high listed = record {
+pub leaf_reads : (up : Bool) (id : ℕ) (v w : Seen) (a : Spot) (s : Shape) (base first from to : ℕ) → s.height ≡ 1 → Covers s (base + first) → (word : ℕ) (saw : List (ℕ × ℕ)) (x : IsRead id v.client a s word saw w.client) (ps : Pairs ℕ) → base % 256 ≡ 0 → first ≤ 255 → to ≤ 255 → AreListed x.node.its base from (to + 1) ps → Reads up id v w (base + from) (base + to + 1) ps
+leaf_reads up id v w a s base first from to high_is covers word saw x ps whole low high listed = record {
   fits = x.fits;
   legal = (x.pairs, x.legal);
   read = one_moment up v.client.seen w.client.seen x.pairs (base + from) (base + to + 1) ps x.fits.begins x.legal
@@ -103,15 +103,15 @@ leaf_reads up id v w name base first from to n word saw x ps whole low high list
       (λ k lk hk.
       let b : ℕ = k - base in
       let is : base + b ≡ k = omega (arith, lk) in
-      let value = value_at id v w name base first to n word saw x whole low high k (omega (arith, lk)) hk in
+      let value = value_at id v w a s base first to high_is covers word saw x whole low high k (omega (arith, lk)) hk in
       subst (λ (z : ℕ). lookup ps z ≡ lookup x.pairs k) is (listed.value b (omega (arith, lk, is)) (omega (arith, hk, is)) ∙ value));
 }
 
 -- a part of the leaf, up to where it was read in that direction
-pub part_reads : (up : Bool) (id : ℕ) (v w : Seen) (name base first last reached : ℕ) (n : Names v name (base + first) 1) (word : ℕ) (saw : List (ℕ × ℕ)) (x : IsRead id v.client n.spot n.spot.shape word saw w.client) (ps : Pairs ℕ) → base % 256 ≡ 0 → first ≤ last → last ≤ 255 → reached ≤ last → AreListed x.node.its base (cond up first reached) (cond up (reached + 1) (last + 1)) ps
+pub part_reads : (up : Bool) (id : ℕ) (v w : Seen) (a : Spot) (s : Shape) (base first last reached : ℕ) → s.height ≡ 1 → Covers s (base + first) → (word : ℕ) (saw : List (ℕ × ℕ)) (x : IsRead id v.client a s word saw w.client) (ps : Pairs ℕ) → base % 256 ≡ 0 → first ≤ last → last ≤ 255 → reached ≤ last → AreListed x.node.its base (cond up first reached) (cond up (reached + 1) (last + 1)) ps
     → Reads up id v w (low_of up (base + cond up first last) (base + reached)) (high_of up (base + cond up first last) (base + reached)) ps
-part_reads true id v w name base first last reached n word saw x ps whole order high within listed = leaf_reads true id v w name base first first reached n word saw x ps whole (omega (arith, order, high)) (omega (arith, within, high)) listed
-part_reads false id v w name base first last reached n word saw x ps whole order high within listed = leaf_reads false id v w name base first reached last n word saw x ps whole (omega (arith, order, high)) high listed
+part_reads true id v w a s base first last reached high_is covers word saw x ps whole order high within listed = leaf_reads true id v w a s base first first reached high_is covers word saw x ps whole (omega (arith, order, high)) (omega (arith, within, high)) listed
+part_reads false id v w a s base first last reached high_is covers word saw x ps whole order high within listed = leaf_reads false id v w a s base first reached last high_is covers word saw x ps whole (omega (arith, order, high)) high listed
 
 -- RANGES of keys
 within : (h key last b k : ℕ) → b < 256 → up h last ≡ 256 * up (suc h) key + b → key ≤ k → k ≤ last → IsWithin (suc h) key b k

@@ -8,7 +8,7 @@ use Rattle.spec_map.proofs.ByteMapLaws.{length-from_Rises}
 use Rattle.share_rule.specs.History.{Entry}
 use Rattle.word_book.specs.Book.{Book}
 use Rattle.live_nodes.specs.Seats.{SeatView}
-use Rattle.live_layout.specs.Order.{IsFrom, IsBefore}
+use Rattle.live_layout.specs.Order.{IsFrom}
 use Rattle.live_law.specs.Views.{View, Ask}
 use Rattle.live_reads.specs.Paths.{Ended, Keeps}
 use Rattle.live_reads.specs.Sees.{Follows}
@@ -20,9 +20,6 @@ use Rattle.live_scans.specs.Scans.{HasRead}
 use Rattle.live_scans.specs.inner.Directions.{low_of, high_of, EndsLeaf, IsNextKey, ascending}
 use Rattle.live_scans.specs.inner.Moments.{SeesMore, IsPassed, Reads}
 use Rattle.live_scans.specs.inner.Steps.{IsStep}
-use Rattle.live_scans.specs.inner.Stops.{IsAtLeaf, Reaches}
-use Rattle.live_scans.specs.declared.seek.Reach.{Reach}
-use Rattle.live_scans.specs.declared.seek.Reach.TheVariants as reaches
 use Rattle.live_scans.proofs.Composed.{more_same, more_then, nothing_read, reads_since, reads_fewer, reads_then, reads_down_then}
 
 abbrev Seen : Type 0
@@ -58,18 +55,6 @@ stays_then b b₁ b₂ c c₁ c₂ u v w s t = (t.0 ∙ s.0, t.1 ∙ s.1, keeps_
 pub follow_ends : (look : Bool) (q : Ask) (v w : Seen) (key height : ℕ) (o : Option Next) → look ≡ false → Follows (Ended look q None) v w key height o → o ≡ Some nexts.Ends → w.client.seen ≡ v.client.seen
 follow_ends look q v w key height o is f e = subst (λ (b : Bool). Ended b q None v w) is (subst (λ (z : Option Next). Follows (Ended look q None) v w key height z) e f)
 
--- WHERE A PATH ENDS, by another key and from an earlier view on
-pub reaches_since : (up : Bool) (c id : ℕ) (u v w : Seen) (k key : ℕ) (r : Reach) → c ≡ id → k ≡ key → SeesMore v.client.seen id u.client.seen → Reaches up c v w k r → Reaches up id u w key r
-reaches_since true c id u v w k key (reaches.Past last) is same seen r = subst (λ (z : ℕ). IsPassed true id u w z last) same (passed_since true c id u v w k last is seen r)
-reaches_since false c id u v w k key (reaches.Past last) is same seen r = subst (λ (z : ℕ). IsPassed false id u w z last) same (passed_since false c id u v w k last is seen r)
-reaches_since true c id u v w k key (reaches.Leaf name first) is same seen r = let low = r.0 in (
-  omega (arith, low, same),
-  subst (λ (z : ℕ). (first % 256 ≡ 0) ⊎ (z ≡ first)) same r.1,
-  r.2,
-  subst (λ (z : ℕ). Reads true id u w z first []) same (reads_since true c id u v w k first [] is seen r.3),
-)
-reaches_since false c id u v w k key (reaches.Leaf name first) is same seen r = (r.0 ∙ same, r.1)
-
 -- THE STEPS OF A PAGE
 -- no pair yet
 none_filled : (up : Bool) (l : List (ℕ × ℕ)) (start : ℕ) → start ≤ length l → [] ≡ ascending up (drop start (take start l))
@@ -94,19 +79,6 @@ gap_step up id u w key limit start last to buffer p order near within is room = 
   seam = λ left ne. elim is [ inl e ↦ subst (EndsLeaf up) (sym e) p.seam | inr e ↦ absurd (ne e) ];
   reads = subst (Reads up id u w (low_of up key to) (high_of up key to)) (none_filled up buffer start (omega (arith, room))) (reads_nearer up id u w key last to near p.reads);
 }
-
--- where the leaf is behind the limit
-pub cut_step : (up : Bool) (id : ℕ) (u w : Seen) (name key limit start first : ℕ) (buffer : List (ℕ × ℕ)) → IsFrom up key limit → IsBefore up limit first → start < length buffer → IsAtLeaf up id u w key name first → IsStep up id u w key limit start buffer start limit
-cut_step true id u w name key limit start first buffer low cut room r = record {
-  order = low;
-  within = omega arith;
-  from = omega arith;
-  few = omega (arith, room);
-  small = omega arith;
-  seam = λ left ne. absurd (ne refl);
-  reads = subst (Reads true id u w key (limit + 1)) (none_filled true buffer start (omega (arith, room))) (reads_fewer true id u w key first key (limit + 1) [] r.3 (omega arith) (omega (arith, cut)) tt);
-}
-cut_step false id u w name key limit start first buffer low cut room r = absurd (let e = r.0 in omega (arith, low, cut, e))
 
 -- the last key of a part
 ends : (up : Bool) (base first last : ℕ) → base % 256 ≡ 0 → cond up last first ≡ cond up 255 0 → EndsLeaf up (base + cond up last first)
@@ -168,21 +140,6 @@ step_since up c id u v w key limit start count last buffer is seen s = record {
   seam = s.seam;
   reads = reads_since up c id u v w (low_of up key last) (high_of up key last) (ascending up (drop start (take count buffer))) is seen s.reads;
 }
-
--- after keys at which there is nothing
-pub step_after : (up : Bool) (c id : ℕ) (u v w : Seen) (name key first limit start count last : ℕ) (buffer : List (ℕ × ℕ)) → c ≡ id → SeesMore v.client.seen id u.client.seen → IsAtLeaf up id u v key name first → IsStep up c v w first limit start buffer count last → IsStep up id u w key limit start buffer count last
-step_after true c id u v w name key first limit start count last buffer is seen r s =
-    let on = s.order in
-    let low = r.0 in record {
-      order = omega (arith, low, on);
-      within = s.within;
-      from = s.from;
-      few = s.few;
-      small = s.small;
-      seam = s.seam;
-      reads = reads_then c id u v w key first (last + 1) [] (drop start (take count buffer)) is seen r.3.read s.reads low (omega (arith, on)) r.1;
-    }
-step_after false c id u v w name key first limit start count last buffer is seen r s = subst (λ (z : ℕ). IsStep false id u w z limit start buffer count last) r.0 (step_since false c id u v w first limit start count last buffer is seen s)
 
 -- A PAGE
 -- so far: all keys before this one were read

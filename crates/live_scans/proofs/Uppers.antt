@@ -1,6 +1,6 @@
 -- Keys and their upper bytes.
 use Rattle.std.proofs.Common.{◌≡◌, ℕ, zero, suc, ◌+◌, ◌-◌, ◌*◌, ◌/◌, ◌^◌, ◌<◌, ◌≤◌, refl, sym, ap, ◌∙◌, subst, arith}
-use Rattle.std.proofs.Math.Nat.{pow-succ', mul-le-mul_right, one-le-pow, le-mul_of_pos_right}
+use Rattle.std.proofs.Math.Nat.{pow-succ', mul-le-mul_right, one-le-pow, le-mul_of_pos_right, div-one, div-div-eq-div-mul, mul-suc}
 use Rattle.std.proofs.lemmas.Nat.{pow-add}
 use Rattle.live_law.specs.Levels.{up}
 use Rattle.live_law.proofs.Plans.{up-up, up-small}
@@ -21,6 +21,11 @@ up-filled (suc h) x r l =
     let q : x * 256 ^ suc h ≡ 256 * (x * 256 ^ h) = ap (λ (z : ℕ). x * z) p ∙ (let e : x * (256 * 256 ^ h) ≡ 256 * (x * 256 ^ h) = omega arith in e) in
     let less : r / 256 < 256 ^ h = omega (arith, l, p) in
     up-inner h (x * 256 ^ suc h + r) ∙ (ap (up h) (let e : (x * 256 ^ suc h + r) / 256 ≡ x * 256 ^ h + r / 256 = omega (arith, q) in e) ∙ up-filled h x (r / 256) less)
+
+-- by a shift
+pub up-shifted : (h k : ℕ) → up h k ≡ k / 2 ^ (8 * h)
+up-shifted zero k = sym (div-one k)
+up-shifted (suc h) k = ap (λ (n : ℕ). n / 256) (up-shifted h k) ∙ (div-div-eq-div-mul k (2 ^ (8 * h)) 256 ∙ ap (λ (n : ℕ). k / n) (sym (pow-add 2 (8 * h) 8) ∙ ap (λ (n : ℕ). 2 ^ n) (sym (mul-suc 8 h))))
 
 -- how large what is above can be
 pub up-fits : (h j k : ℕ) → h + j ≡ 8 → k < 256 ^ 8 → up h k < 256 ^ j

@@ -11,7 +11,7 @@ use Rattle.live_nodes.specs.Acts as acts
 use Rattle.live_nodes.specs.Plays as Plays
 use Rattle.live_nodes.specs.Plays.{Checks}
 use Rattle.live_nodes.specs.Calls.{MayCheck}
-use Rattle.live_nodes.specs.Rows.{last_saw, without_reads}
+use Rattle.live_nodes.specs.Rows.{last_saw, unread, without_reads}
 use Rattle.live_law.specs.Levels.{up, digit, Covers, bytes_above, Shape, Spot, place_at}
 use Rattle.live_law.specs.Views.{Watch, View, view_of, ask}
 use Rattle.live_law.specs.Tree.{IsMap, IsNow, IsUnder, LeadsDown}
@@ -22,6 +22,7 @@ use Rattle.live_reads.specs.Paths.{IsOpen, Keeps}
 use Rattle.live_reads.specs.Mismatches.{IsMismatched}
 use Rattle.live_reads.proofs.Views.{learned_keeps, may_check_open, open_checked, open_missed}
 use Rattle.live_scans.specs.inner.Moments.{HasUnder, IsRead, LearnsAll}
+use Rattle.live_scans.specs.inner.Nexts.{IsLeafOpen, IsReadOn}
 
 abbrev Seen : Type 0
 Seen = SeatView View
@@ -121,6 +122,66 @@ module _ (v : Seen) (b : Book) (words : List Name) (t name key height : ℕ) (o 
           learned_keeps v w h.0 h.1 (read a.number t saw ∷ o.opened.before) h.2 (λ z in_it. subst (λ (u : View). IsIn z u.met) (sym x.is) in_it) (ap (λ (u : View). u.own) x.is),
           subst (λ (z : Seen). IsRead caller v.client a a.shape t saw z.client) (sym h.2) x,
         )
+
+-- A LEAF that is open is checked.
+pub record IsLeafRead (caller : ℕ) (v w : Seen) (a : Spot) (key word : ℕ) (saw : List (ℕ × ℕ)) : Type 0 where
+  pub keeps : Keeps v w
+  pub on : IsReadOn v.reads w.reads
+  pub shape : Shape
+  pub high : shape.height ≡ 1
+  pub covers : Covers shape key
+  pub read : IsRead caller v.client a shape word saw w.client
+
+module _ (v : Seen) (b : Book) (words : List Name) (t name key : ℕ) (l : IsLeafOpen v b words t name key) (v₂ : Seen) (rest : without_reads v₂ ≡ without_reads v) (k : ℕ) (at_k : (place_at l.sighted.spot).key ≡ k) (caller : ℕ) where
+  abbrev leaf : Spot
+  leaf = l.sighted.spot
+
+  abbrev saw_leaf : List (ℕ × ℕ)
+  saw_leaf = last_saw v₂.reads
+
+  pub may_leaf : (id m : ℕ) → caller ≡ id → t ≡ 4 * m → MayCheck v₂ k IsMap id (LearnsAll caller) t
+  may_leaf id m by even = may_check_open v b words t leaf l.sighted.placed l.opened v₂ rest k at_k (LearnsAll caller) id
+      (node_whole caller id by v.client leaf l.sighted.met t saw_leaf m even (read leaf.number t saw_leaf ∷ l.opened.before))
+
+  module _ (w : Seen) (m : ℕ) (told : Checks (LearnsAll caller) (reads k) v₂ m none_joined w) where
+    pub leaf_missed : m ≢ t → Keeps v w × (w.client ≡ v.client)
+    leaf_missed ne = open_missed v b words t leaf l.sighted.placed l.opened v₂ rest k at_k (LearnsAll caller) w m told ne
+
+    -- what was read before is so still
+    pub leaf_hit : m ≡ t → ((c : Content) → Agree c saw_leaf → Agree c l.opened.saw) → IsLeafRead caller v w leaf key t saw_leaf
+    leaf_hit hit kept =
+        let h = (open_checked v b words t leaf l.sighted.placed l.opened v₂ rest k at_k (LearnsAll caller) w m told).hit hit in
+        let y = h.3 leaf l.sighted.met refl in
+        let by = l.leaf y.0 record {
+          now = y.1.node.now;
+          content = y.1.node.content;
+          its = y.1.node.its;
+          agrees = kept y.1.node.content y.1.node.agrees;
+          encodes = y.1.node.encodes;
+          in_form = y.1.node.in_form;
+          deep = y.1.node.deep;
+          prefixed = y.1.node.prefixed;
+        } in
+        let w_reads : w.reads ≡ read leaf.number t saw_leaf ∷ l.opened.before = ap (λ (z : Seen). z.reads) h.2 in record {
+          keeps = learned_keeps v w h.0 h.1 (read leaf.number t saw_leaf ∷ l.opened.before) h.2 (λ z in_it. subst (λ (u : View). IsIn z u.met) (sym y.1.is) in_it) (ap (λ (u : View). u.own) y.1.is);
+          on = (
+            ap unread w_reads ∙ sym (ap unread l.opened.reads),
+            λ c agrees. subst (Agree c) (sym (ap last_saw l.opened.reads)) (kept c (subst (Agree c) (ap last_saw w_reads) agrees)),
+          );
+          shape = y.0;
+          high = by.0;
+          covers = by.1;
+          read = subst (λ (z : Seen). IsRead caller v.client leaf y.0 t saw_leaf z.client) (sym h.2) y.1;
+        }
+
+-- one that a reader has entered
+pub leaf_entered : (v : Seen) (b : Book) (words : List Name) (t name key : ℕ) → IsOpen v b words t name key 1 → IsLeafOpen v b words t name key
+leaf_entered v b words t name key o = record {
+  sighted = record { spot = o.names.spot; met = o.names.met; placed = o.names.placed; named = o.names.named };
+  opened = o.opened;
+  even = o.free;
+  leaf = λ s is. let e = o.sure s is in (ap (λ (z : Shape). z.height) e ∙ o.names.high, subst (λ (z : Shape). Covers z key) (sym e) o.names.covers);
+}
 
 -- The node above one that is watched is checked again.
 module _ (v : Seen) (b : Book) (words : List Name) (t name key height : ℕ) (f : IsMismatched v b words t name key height) (k : ℕ) (at_k : (place_at f.names.spot).key ≡ k) (caller : ℕ) where

@@ -9,8 +9,9 @@ ghost use Rattle.live_scans.specs.inner.Steps.{Counts};
 
 pub mod laws;
 
-use crate::page::{Bound, key_after, read_on};
-use crate::position::Position;
+use crate::bound::{Bound, key_after};
+use crate::page::read_on;
+use crate::position::{PathNode, Position, Trail};
 use crate::scans::ceiling;
 use crate::seek::start;
 use live_growth::map::{Busy, Congee, Guard};
@@ -35,7 +36,11 @@ fn count_all(nodes: &Nodes, position: Position, seat: &mut Seat) -> Option<u128>
     };
     let mut count = 0u128;
     let mut from = 0u64;
-    let mut at = Some(position);
+    let low = PathNode {
+        at: position,
+        known: None,
+    };
+    let mut at = Some(Trail { low, high: low });
     loop {
         let stepped = read_on(nodes, at, from, bound, &mut leaf, 0, seat)?;
         let step = stepped.step;
@@ -44,7 +49,7 @@ fn count_all(nodes: &Nodes, position: Position, seat: &mut Seat) -> Option<u128>
             return Some(count);
         }
         from = key_after(step.last, bound);
-        at = Some(stepped.position);
+        at = Some(stepped.trail);
     }
 }
 

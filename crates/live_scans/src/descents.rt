@@ -5,7 +5,8 @@ ghost use Rattle.live_layout.specs.Page.{pairs_of};
 ghost use Rattle.live_scans.specs.Scans.{GaveUp};
 ghost use Rattle.live_scans.specs.Descents.{HasPageDown};
 
-use crate::page::{Bound, page};
+use crate::bound::Bound;
+use crate::page::page;
 use crate::scans::begin_only;
 use crate::seek::start;
 use live_growth::map::{Busy, Congee, Guard};

@@ -20,21 +20,15 @@ pub fn span(height: usize) -> u64
 }
 
 /// The bytes of a key above a node of this height.
+#[inline(always)]
 pub fn upper(key: u64, height: usize) -> u64
     requires { height ≤ 8 }
     ensures { result ≡ up height key }
 {
-    match height {
-        0 => key,
-        1 => key / (1 << 8),
-        2 => key / (1 << 16),
-        3 => key / (1 << 24),
-        4 => key / (1 << 32),
-        5 => key / (1 << 40),
-        6 => key / (1 << 48),
-        7 => key / (1 << 56),
-        _ => 0,
+    if height == 8 {
+        return 0;
     }
+    key >> (8 * height)
 }
 
 /// The last key that begins like this one down to a height, and has that byte there.

@@ -1,24 +1,29 @@
 //! The path on from a key below a node: to the next node, or past keys that are absent.
-ghost use Rattle.std.specs.Prelude.{◌≡◌, ℕ, ◌+◌, ◌-◌, ◌*◌, ◌^◌, ◌%◌, ◌<◌, ◌≤◌, true, false, Some, IfSome, IsTrue};
+ghost use Rattle.std.specs.Prelude.{◌≡◌, ℕ, ◌+◌, ◌-◌, ◌*◌, ◌%◌, ◌<◌, ◌≤◌, true, length, take, Some, IfSome, IsTrue};
 ghost use Rattle.spec_node.specs.declared.child.Child.TheVariants.{Node};
 ghost use Rattle.live_layout.specs.Encodes.{IsWord};
+ghost use Rattle.live_layout.specs.Page.{pairs_of};
 ghost use Rattle.live_law.specs.Levels.{up, digit};
 ghost use Rattle.live_reads.specs.Paths.{Names, Sights, Keeps};
 ghost use Rattle.live_reads.specs.Mismatches.{first_number};
-ghost use Rattle.live_scans.specs.inner.Moments.{SeesMore, HasNone};
-ghost use Rattle.live_scans.specs.inner.Nexts.{IsNear, IsNext, HasHead, IsOutside, Chooses, Turns};
+ghost use Rattle.live_scans.specs.inner.Moments.{SeesMore, HasNone, IsPassed};
+ghost use Rattle.live_scans.specs.inner.Nexts.{IsNear, IsNext, IsLower, HasHead, IsOutside, Chooses, Enters, Visits};
+ghost use Rattle.live_scans.specs.inner.Stops.{HasWords};
 
 use crate::after::child_after;
+use crate::beside::read_beside;
+use crate::bound::{Request, Step};
 use crate::keys::{floor_of, last_of, upper};
 use crate::on_check::Whole;
-use crate::position::Position;
+use crate::position::{NodeWords, Position, open_known};
 use live_law::law::{Above, Asks, Below, Head, Look, MapLaw, MapView};
 use live_layout::form::{form_below, slot_below};
+use live_layout::page::RangeEntry;
 use live_layout::words::ReadWords;
 use live_nodes::node;
 use live_nodes::rows::SharedWords;
 use live_reads::path::{Cell, Nodes, Opened, Seat, byte_at, open};
-use live_reads::prefix_match::{PrefixMatch, compare, enter};
+use live_reads::prefix_match::{PrefixMatch, compare};
 use std::marker::Brand;
 
 /// An open node, and its child nearest to a key's byte: the byte and the word.
@@ -43,10 +48,17 @@ pub enum Turn {
     Goes(Position),
 }
 
+/// What a visit of a node has come to: no keys up to another one, a node below, or pairs that were read.
+#[derive(Clone, Copy, Debug, PartialEq, Eq)]
+pub enum Visit {
+    Past(u64),
+    Goes(Position),
+    Read(Step),
+}
+
 /// A node that a key has come to is open, and its nearest child read. `None` where a writer came in between.
-fn open_near<'a>(nodes: &'a Nodes, at: Position, seat: &mut Seat) -> Option<Near<'a>>
-    requires book { seat.old.book ≡ nodes.now }
-    requires named { Names seat.old.view at.name at.key at.height }
+fn open_near<'a>(at: Position, known: NodeWords<'a>, seat: &mut Seat) -> Option<Near<'a>>
+    requires known { HasWords seat.old.view seat.old.book at known.words.now known.head }
     requires height { (2 ≤ at.height) × (at.height ≤ 8) }
     ensures book { seat.new.book ≡ seat.old.book }
     ensures id { seat.new.id ≡ seat.old.id }
@@ -55,7 +67,7 @@ fn open_near<'a>(nodes: &'a Nodes, at: Position, seat: &mut Seat) -> Option<Near
     ensures near { IfSome result (λ n. let here = n.here
         in IsNear seat.new.view seat.new.book here.words.now here.taken at n.found) }
 {
-    let here = enter(nodes, at.name, at.height, at.key, seat)?;
+    let here = open_known(at, known, seat)?;
     let row = SharedWords { words: here.words };
     let found = child_after(&row, form_below(at.name), byte_at(at.key, at.height), seat);
     Some(Near { here, found })
@@ -134,7 +146,7 @@ fn watch_next<'a, N: Above>(
 }
 
 /// Whether an open node is what it was. So no other keys are there, up to a child's byte, than those of the child.
-fn is_still<A: Asks>(
+pub fn is_still<A: Asks>(
     here: Opened<'_>,
     at: Position,
     byte: u8,
@@ -152,8 +164,8 @@ fn is_still<A: Asks>(
     ensures seen { SeesMore seat.new.view.client.seen seat.old.id seat.old.view.client.seen }
     ensures none { IsTrue result → HasNone seat.old.id seat.old.view seat.new.view
         (IsOutside at byte lower.entry.node) }
-    ensures head { IsTrue result → HasHead seat.new.view seat.new.book lower.entry.node
-        lower.entry.here.words.now lower.entry.here.taken }
+    ensures lower { IsTrue result → IsLower seat.new.view seat.new.book here.entry.words.now here.entry.taken
+        at (byte, word) lower.entry.node lower.entry.here.words.now lower.entry.here.taken }
 {
     let Opened { words, taken } = here;
     node::check::<MapView, MapLaw, Whole<A>>(&words[0], taken, seat)
@@ -208,25 +220,69 @@ fn choose(at: Position, byte: u8, to: u64, lower: Position) -> Option<Turn>
     Some(Turn::Goes(lower))
 }
 
-/// What is next where an open node has a child from the key's byte on. `None` where a writer came in between.
-fn beside<A: Asks>(
-    nodes: &Nodes,
+// What is next behind the keys that a node has before a child: the child, or its pairs, if it is a leaf. `None` where a writer came
+// in between.
+fn enter_lower<A: Asks, P: RangeEntry>(
     here: Opened<'_>,
     at: Position,
-    byte: u8,
-    word: u64,
+    child: (u8, u64),
+    lower: Lower<'_>,
+    request: Request,
+    buffer: &mut [P],
     seat: &mut Seat,
-) -> Option<Turn>
-    requires book { seat.old.book ≡ nodes.now }
+) -> Option<Visit>
     requires asks { A.ask.caller ≡ seat.old.id }
-    requires near { IsNear seat.old.view seat.old.book here.words.now here.taken at (Some (byte, word)) }
     requires height { (2 ≤ at.height) × (at.height ≤ 8) }
+    requires lower { IsLower seat.old.view seat.old.book here.words.now here.taken at child
+        lower.node lower.here.words.now lower.here.taken }
+    requires low { (1 ≤ lower.node.height) × (lower.node.height < at.height) }
+    requires order { (at.key ≤ lower.node.key) × (lower.node.key ≤ request.limit) }
+    requires start { request.start < length buffer.old }
+    ensures before { take request.start (pairs_of P.pair buffer.new)
+        ≡ take request.start (pairs_of P.pair buffer.old) }
     ensures book { seat.new.book ≡ seat.old.book }
     ensures id { seat.new.id ≡ seat.old.id }
     ensures keeps { Keeps seat.old.view seat.new.view }
     ensures seen { SeesMore seat.new.view.client.seen seat.old.id seat.old.view.client.seen }
-    ensures turns { Turns seat.old.id seat.old.view seat.new.view at result }
+    ensures enters { Enters seat.old.id seat.old.view seat.new.view lower.entry.node request.limit request.start
+        (pairs_of P.pair buffer.new) result }
 {
+    if lower.node.height == 1 {
+        let step = read_beside::<A, P>(here, at, child, lower, request, buffer, seat)?;
+        return Some(Visit::Read(step));
+    }
+    if !arrive(lower, seat) {
+        return None;
+    }
+    Some(Visit::Goes(lower.node))
+}
+
+/// What is next where an open node has a child from the key's byte on. `None` where a writer came in between.
+fn beside<A: Asks, P: RangeEntry>(
+    nodes: &Nodes,
+    here: Opened<'_>,
+    at: Position,
+    child: (u8, u64),
+    request: Request,
+    buffer: &mut [P],
+    seat: &mut Seat,
+) -> Option<Visit>
+    requires book { seat.old.book ≡ nodes.now }
+    requires asks { A.ask.caller ≡ seat.old.id }
+    requires near { IsNear seat.old.view seat.old.book here.words.now here.taken at (Some child) }
+    requires height { (2 ≤ at.height) × (at.height ≤ 8) }
+    requires order { at.key ≤ request.limit }
+    requires start { request.start < length buffer.old }
+    ensures before { take request.start (pairs_of P.pair buffer.new)
+        ≡ take request.start (pairs_of P.pair buffer.old) }
+    ensures book { seat.new.book ≡ seat.old.book }
+    ensures id { seat.new.id ≡ seat.old.id }
+    ensures keeps { Keeps seat.old.view seat.new.view }
+    ensures seen { SeesMore seat.new.view.client.seen seat.old.id seat.old.view.client.seen }
+    ensures visits { Visits seat.old.id seat.old.view seat.new.view at request.limit request.start
+        (pairs_of P.pair buffer.new) result }
+{
+    let (byte, word) = child;
     let to = last_of(at.key, at.height, byte);
     if !meet_under::<Brand>(here, at, byte, word, to, seat) {
         return None;
@@ -235,14 +291,23 @@ fn beside<A: Asks>(
     if !is_still::<A>(here, at, byte, word, lower, seat) {
         return None;
     }
-    if !arrive(lower, seat) {
-        return None;
+    match choose(at, byte, to, lower.node)? {
+        Turn::Past(last) => Some(Visit::Past(last)),
+        Turn::Goes(node) => {
+            if node.key > request.limit {
+                return Some(Visit::Past(node.key - 1));
+            }
+            let lower = Lower {
+                node,
+                here: lower.here,
+            };
+            enter_lower::<A, P>(here, at, child, lower, request, buffer, seat)
+        }
     }
-    choose(at, byte, to, lower.node)
 }
 
-// What is next where an open node has no child from the key's byte on.
-fn behind<A: Asks>(here: Opened<'_>, at: Position, seat: &mut Seat) -> Option<Turn>
+// The last key of a node that is open, where it has no child from the key's byte on. `None` where a writer came in between.
+fn behind<A: Asks>(here: Opened<'_>, at: Position, seat: &mut Seat) -> Option<u64>
     requires asks { A.ask.caller ≡ seat.old.id }
     requires near { IsNear seat.old.view seat.old.book here.words.now here.taken at None }
     requires height { (2 ≤ at.height) × (at.height ≤ 8) }
@@ -250,7 +315,7 @@ fn behind<A: Asks>(here: Opened<'_>, at: Position, seat: &mut Seat) -> Option<Tu
     ensures id { seat.new.id ≡ seat.old.id }
     ensures keeps { Keeps seat.old.view seat.new.view }
     ensures seen { SeesMore seat.new.view.client.seen seat.old.id seat.old.view.client.seen }
-    ensures turns { Turns seat.old.id seat.old.view seat.new.view at result }
+    ensures passed { IfSome result (IsPassed true seat.old.id seat.old.view seat.new.view at.key) }
 {
     let Opened { words, taken } = here;
     if !node::check::<MapView, MapLaw, Whole<A>>(&words[0], taken, seat) {
@@ -260,24 +325,40 @@ fn behind<A: Asks>(here: Opened<'_>, at: Position, seat: &mut Seat) -> Option<Tu
     if last < at.key || last % 256 != 255 {
         return None;
     }
-    Some(Turn::Past(last))
+    Some(last)
 }
 
-/// What is next from a key on below a node that has keys which begin like it. `None` where a writer came in between.
-pub fn next_turn<A: Asks>(nodes: &Nodes, at: Position, seat: &mut Seat) -> Option<Turn>
+/// What is next from a key on below a node that has keys which begin like it. If that is a leaf, its pairs are written into the
+/// buffer. `None` where a writer came in between.
+pub fn visit_node<A: Asks, P: RangeEntry>(
+    nodes: &Nodes,
+    at: Position,
+    known: NodeWords<'_>,
+    request: Request,
+    buffer: &mut [P],
+    seat: &mut Seat,
+) -> Option<Visit>
     requires book { seat.old.book ≡ nodes.now }
     requires asks { A.ask.caller ≡ seat.old.id }
-    requires named { Names seat.old.view at.name at.key at.height }
+    requires known { HasWords seat.old.view seat.old.book at known.words.now known.head }
     requires height { (2 ≤ at.height) × (at.height ≤ 8) }
+    requires order { at.key ≤ request.limit }
+    requires start { request.start < length buffer.old }
+    ensures before { take request.start (pairs_of P.pair buffer.new)
+        ≡ take request.start (pairs_of P.pair buffer.old) }
     ensures book { seat.new.book ≡ seat.old.book }
     ensures id { seat.new.id ≡ seat.old.id }
     ensures keeps { Keeps seat.old.view seat.new.view }
     ensures seen { SeesMore seat.new.view.client.seen seat.old.id seat.old.view.client.seen }
-    ensures turns { Turns seat.old.id seat.old.view seat.new.view at result }
+    ensures visits { Visits seat.old.id seat.old.view seat.new.view at request.limit request.start
+        (pairs_of P.pair buffer.new) result }
 {
-    let near = open_near(nodes, at, seat)?;
+    let near = open_near(at, known, seat)?;
     match near.found {
-        None => behind::<A>(near.here, at, seat),
-        Some((byte, word)) => beside::<A>(nodes, near.here, at, byte, word, seat),
+        None => {
+            let last = behind::<A>(near.here, at, seat)?;
+            Some(Visit::Past(last))
+        }
+        Some(child) => beside::<A, P>(nodes, near.here, at, child, request, buffer, seat),
     }
 }

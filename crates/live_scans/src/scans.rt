@@ -4,7 +4,8 @@ ghost use Rattle.std.specs.Prelude.{◌≡◌, ◌+◌, ◌≤◌, length, take,
 ghost use Rattle.live_layout.specs.Page.{pairs_of};
 ghost use Rattle.live_scans.specs.Scans.{HasBegun, GaveUp, HasPage, HasNext};
 
-use crate::page::{Bound, page};
+use crate::bound::Bound;
+use crate::page::page;
 use crate::seek::start;
 use live_growth::map::{Busy, Congee, Guard};
 use live_layout::page::RangeEntry;

@@ -1,23 +1,23 @@
-//! The path of a reader from a node to a leaf, upwards or downwards.
-ghost use Rattle.std.specs.Prelude.{◌≡◌, true, false, IfSome};
+//! The path of a reader: where it begins, and downwards from a node to a leaf.
+ghost use Rattle.std.specs.Prelude.{◌≡◌, ◌≤◌, false, IfSome};
+ghost use Rattle.live_law.specs.Levels.{up};
 ghost use Rattle.live_scans.specs.inner.Moments.{SeesMore};
 ghost use Rattle.live_reads.specs.Paths.{KnowsRootWord, Keeps};
-ghost use Rattle.live_scans.specs.inner.Stops.{IsPosition, Starts, Reaches};
+ghost use Rattle.live_scans.specs.inner.Stops.{IsPosition, IsTrail, Starts, Reaches};
 
 use crate::gaps::{around, gap};
 use crate::keys::upper;
-use crate::next::{Turn, next_turn};
-use crate::position::Position;
+use crate::position::{PathNode, Position, Trail};
 use live_growth::map::TRIES;
 use live_law::law::Asks;
 use live_reads::path::{Nodes, Seat, root, root_begun};
 use live_reads::prefix_match::{Next, enter, step};
 
-/// Where a reader's path ends: past keys that are absent, up to this one, or at a leaf, with the first of its keys that isn't passed.
+/// Where a reader's path downwards ends: past keys that are absent, up to this one, or at a leaf, which has this name.
 #[derive(Clone, Copy, Debug, PartialEq, Eq)]
 pub enum Reach {
     Past(u64),
-    Leaf(u64, u64),
+    Leaf(u64),
 }
 
 /// Where a reader's path ends, and the node above.
@@ -27,43 +27,8 @@ pub struct Sought {
     pub reach: Reach,
 }
 
-// The end of a reader's path upwards from a node on. `None` where a writer came in between.
-fn seek_up<A: Asks>(nodes: &Nodes, position: Position, seat: &mut Seat) -> Option<Sought>
-    requires book { seat.old.book ≡ nodes.now }
-    requires asks { A.ask.caller ≡ seat.old.id }
-    requires position { IsPosition seat.old.view position }
-    ensures book { seat.new.book ≡ seat.old.book }
-    ensures id { seat.new.id ≡ seat.old.id }
-    ensures keeps { Keeps seat.old.view seat.new.view }
-    ensures seen { SeesMore seat.new.view.client.seen seat.old.id seat.old.view.client.seen }
-    ensures position { IfSome result (λ s. IsPosition seat.new.view s.position) }
-    ensures reaches { IfSome result (λ s. Reaches true seat.old.id seat.old.view seat.new.view
-        position.key s.reach) }
-{
-    let mut at = position;
-    loop {
-        match next_turn::<A>(nodes, at, seat)? {
-            Turn::Past(last) => {
-                return Some(Sought {
-                    position: at,
-                    reach: Reach::Past(last),
-                });
-            }
-            Turn::Goes(child) => {
-                if child.height == 1 {
-                    return Some(Sought {
-                        position: at,
-                        reach: Reach::Leaf(child.name, child.key),
-                    });
-                }
-                at = child;
-            }
-        }
-    }
-}
-
-// The end of a reader's path downwards from a node on, by the position's key. `None` where a writer came in between.
-fn seek_down<A: Asks>(nodes: &Nodes, position: Position, seat: &mut Seat) -> Option<Sought>
+/// The end of a reader's path downwards from a node on, by the position's key. `None` where a writer came in between.
+pub fn seek_down<A: Asks>(nodes: &Nodes, position: Position, seat: &mut Seat) -> Option<Sought>
     requires book { seat.old.book ≡ nodes.now }
     requires asks { (A.ask.key ≡ position.key) × (A.ask.caller ≡ seat.old.id) × (A.reads ≡ false) }
     requires position { IsPosition seat.old.view position }
@@ -72,7 +37,7 @@ fn seek_down<A: Asks>(nodes: &Nodes, position: Position, seat: &mut Seat) -> Opt
     ensures keeps { Keeps seat.old.view seat.new.view }
     ensures seen { SeesMore seat.new.view.client.seen seat.old.id seat.old.view.client.seen }
     ensures position { IfSome result (λ s. IsPosition seat.new.view s.position) }
-    ensures reaches { IfSome result (λ s. Reaches false seat.old.id seat.old.view seat.new.view
+    ensures reaches { IfSome result (λ s. Reaches seat.old.id seat.old.view seat.new.view
         position.key s.reach) }
 {
     let key = position.key;
@@ -92,7 +57,7 @@ fn seek_down<A: Asks>(nodes: &Nodes, position: Position, seat: &mut Seat) -> Opt
                 if lower == 1 {
                     return Some(Sought {
                         position: at,
-                        reach: Reach::Leaf(below, key),
+                        reach: Reach::Leaf(below),
                     });
                 }
                 at = Position {
@@ -113,61 +78,59 @@ fn seek_down<A: Asks>(nodes: &Nodes, position: Position, seat: &mut Seat) -> Opt
     }
 }
 
-/// The end of a reader's path from a node on, upwards (`true`) or downwards. `None` where a writer came in between.
-pub fn seek_on<A: Asks>(
-    nodes: &Nodes,
-    position: Position,
-    up: bool,
-    seat: &mut Seat,
-) -> Option<Sought>
-    requires book { seat.old.book ≡ nodes.now }
-    requires asks { (A.ask.key ≡ position.key) × (A.ask.caller ≡ seat.old.id) × (A.reads ≡ false) }
-    requires position { IsPosition seat.old.view position }
-    ensures book { seat.new.book ≡ seat.old.book }
-    ensures id { seat.new.id ≡ seat.old.id }
-    ensures keeps { Keeps seat.old.view seat.new.view }
-    ensures seen { SeesMore seat.new.view.client.seen seat.old.id seat.old.view.client.seen }
-    ensures position { IfSome result (λ s. IsPosition seat.new.view s.position) }
-    ensures reaches { IfSome result (λ s. Reaches up seat.old.id seat.old.view seat.new.view
-        position.key s.reach) }
+// This node with another key, if the key begins like it.
+fn with_key<'a>(path_node: PathNode<'a>, key: u64) -> Option<PathNode<'a>>
+    requires height { path_node.at.height ≤ 8 }
+    ensures with { IfSome result (λ s. (s.at.key ≡ key) × (s.at.name ≡ path_node.entry.at.name)
+        × (s.at.height ≡ path_node.entry.at.height) × (s.known ≡ path_node.entry.known)
+        × (up path_node.entry.at.height key ≡ up path_node.entry.at.height path_node.entry.at.key)) }
 {
-    if up {
-        return seek_up::<A>(nodes, position, seat);
+    let PathNode { at, known } = path_node;
+    if upper(at.key, at.height) != upper(key, at.height) {
+        return None;
     }
-    seek_down::<A>(nodes, position, seat)
+    let at = Position {
+        name: at.name,
+        height: at.height,
+        key,
+    };
+    Some(PathNode { at, known })
 }
 
-/// A node on the path of a key: this one, if the key begins like it, or the root. `None` where a writer came in between.
-pub fn begin(
-    nodes: &Nodes,
-    position: Option<Position>,
+/// The trail of a key: from the lower node of this one on, if the key begins like it, or from the upper one on, or from the root on.
+/// `None` where a writer came in between.
+pub fn begin<'a>(
+    nodes: &'a Nodes,
+    trail: Option<Trail<'a>>,
     key: u64,
     seat: &mut Seat,
-) -> Option<Position>
+) -> Option<Trail<'a>>
     requires book { seat.old.book ≡ nodes.now }
     requires root_word { KnowsRootWord seat.old.view }
-    requires position { IfSome position (IsPosition seat.old.view) }
+    requires trail { IfSome trail (IsTrail seat.old.view seat.old.book) }
     ensures book { seat.new.book ≡ seat.old.book }
     ensures id { seat.new.id ≡ seat.old.id }
     ensures keeps { Keeps seat.old.view seat.new.view }
     ensures seen { seat.new.view.client.seen ≡ seat.old.view.client.seen }
-    ensures position { IfSome result (λ s. (s.key ≡ key) × IsPosition seat.new.view s) }
+    ensures trail { IfSome result (λ t. (t.low.at.key ≡ key) × IsTrail seat.new.view seat.new.book t) }
 {
-    if let Some(at) = position {
-        if upper(at.key, at.height) == upper(key, at.height) {
-            return Some(Position {
-                name: at.name,
-                height: at.height,
-                key,
-            });
+    if let Some(from) = trail {
+        let high = from.high;
+        if let Some(low) = with_key(from.low, key) {
+            return Some(Trail { low, high });
+        }
+        if let Some(low) = with_key(high, key) {
+            return Some(Trail { low, high });
         }
     }
     let name = root(nodes, key, seat)?;
-    Some(Position {
+    let at = Position {
         name,
         height: 8,
         key,
-    })
+    };
+    let low = PathNode { at, known: None };
+    Some(Trail { low, high: low })
 }
 
 /// A reader begins at the root, with this key. Its entry is then the last of the history that it has seen. `None` where too many

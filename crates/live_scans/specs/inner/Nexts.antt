@@ -1,22 +1,26 @@
 -- The path on from a key below a node.
-use Rattle.std.specs.Prelude.{◌≡◌, ◌≢◌, ◌⊎◌, ℕ, ◌+◌, ◌%◌, ◌<◌, ◌≤◌, true, List, [], Option, Some, None}
+use Rattle.std.specs.Prelude.{◌≡◌, ◌≢◌, ◌⊎◌, ℕ, ◌+◌, ◌%◌, ◌<◌, ◌≤◌, true, List, [], ◌∷◌, Option, Some, None}
 use Rattle.spec_node.specs.TableNode.{TableNode}
 use Rattle.spec_node.specs.declared.child.Child.TheVariants.{Node}
 use Rattle.word_book.specs.Book.{Book, Name}
 use Rattle.live_nodes.specs.Nodes.{Content}
-use Rattle.live_nodes.specs.Seats.{read, SeatView, IsIn, Agree}
+use Rattle.live_nodes.specs.Seats.{Read, read, SeatView, IsIn, Agree}
 use Rattle.live_nodes.specs.Plays.{read_of}
-use Rattle.live_nodes.specs.Rows.{AreOf}
+use Rattle.live_nodes.specs.Rows.{AreOf, last_saw, unread}
 use Rattle.live_layout.specs.Encodes.{Encodes, IsWord}
 use Rattle.live_layout.specs.Order.{HasNearest}
 use Rattle.live_law.specs.Levels.{up, digit, Shape, Spot, name_of, Covers, place_at}
 use Rattle.live_law.specs.Views.{View, Watch}
 use Rattle.live_law.specs.Tree.{IsOf}
+use Rattle.live_reads.specs.Mismatches.{first_number}
 use Rattle.live_reads.specs.Paths.{Names, Sights, HasOpened, IsOpen}
 use Rattle.live_scans.specs.inner.Moments.{IsWithin, IsPassed, Reads}
 use Rattle.live_scans.specs.declared.position.Position.{Position}
+use Rattle.live_scans.specs.inner.Steps.{IsStep}
 use Rattle.live_scans.specs.declared.next.Turn.{Turn}
 use Rattle.live_scans.specs.declared.next.Turn.TheVariants.{Past, Goes}
+use Rattle.live_scans.specs.declared.next.Visit.{Visit}
+use Rattle.live_scans.specs.declared.next.Visit.TheVariants as visits
 
 -- The node is open, and its child nearest to the key's byte was read.
 pub record IsNear (v : SeatView View) (b : Book) (words : List Name) (taken : ℕ) (s : Position) (found : Option (ℕ × ℕ)) : Type 0 where
@@ -30,23 +34,47 @@ pub record HasHead (v : SeatView View) (b : Book) (d : Position) (words : List N
   pub even : taken % 4 ≡ 0
   pub head : (a : Spot) (s : Shape) → IsOf a s opened.saw → (s.height ≡ d.height) × Covers s d.key
 
--- The nearest child of an open node is open, too, and watched there.
-pub record IsNext (v : SeatView View) (b : Book) (words : List Name) (taken : ℕ) (s : Position) (e : ℕ × ℕ) (d : Position) (others : List Name) (other : ℕ) : Type 0 where
+-- the node whose word was taken before the last one
+abbrev pub second_number : List Read → ℕ
+second_number [] = 0
+second_number (r ∷ rs) = first_number rs
+
+-- An open node and its nearest child, which is open, too: its word was taken after the node's.
+pub record IsLower (v : SeatView View) (b : Book) (words : List Name) (taken : ℕ) (s : Position) (e : ℕ × ℕ) (d : Position) (others : List Name) (other : ℕ) : Type 0 where
   pub names : Names v s.name s.key s.height
   pub are : AreOf (place_at names.spot) b words
   pub saw : List (ℕ × ℕ)
   pub reads : read_of names.spot.number v.reads ≡ Some (read names.spot.number taken saw)
+  pub second : second_number v.reads ≡ names.spot.number
   pub free : taken % 4 ≡ 0
   pub sure : (shape : Shape) → IsOf names.spot shape saw → shape ≡ names.spot.shape
   pub near : (c : Content) (n : TableNode ℕ) → Agree c saw → Encodes c n → n.form ≡ names.spot.shape.form → HasNearest true n.children (digit s.height s.key) (Some e)
   pub child : HasHead v b d others other
+  pub apart : child.sighted.spot.number ≢ names.spot.number
+  pub low_byte : e.0 < 256
+  pub is_child : (name : ℕ) → IsWord e.1 (Node name) → name ≡ d.name
+
+-- And the child is watched there.
+pub record IsNext (v : SeatView View) (b : Book) (words : List Name) (taken : ℕ) (s : Position) (e : ℕ × ℕ) (d : Position) (others : List Name) (other : ℕ) : Type 0 where
+  pub lower : IsLower v b words taken s e d others other
   pub watch : Watch
   pub known : IsIn watch v.client.watched
-  pub above : watch.above ≡ names.spot.number
+  pub above : watch.above ≡ lower.names.spot.number
   pub free_by : watch.word ≡ Some taken
   pub spells : (name : ℕ) → IsWord e.1 (Node name) → name ≡ name_of watch.spot.shape
   pub low_is : watch.spot.shape.height ≡ d.height
   pub covers : Covers watch.spot.shape d.key
+
+-- A node is open, and its head was read: if that is current, it is a leaf, which has this key.
+pub record IsLeafOpen (v : SeatView View) (b : Book) (words : List Name) (taken name key : ℕ) : Type 0 where
+  pub sighted : Sights v name
+  pub opened : HasOpened v b words taken sighted.spot
+  pub even : taken % 4 ≡ 0
+  pub leaf : (s : Shape) → IsOf sighted.spot s opened.saw → (s.height ≡ 1) × Covers s key
+
+-- More was read of the node whose word was taken last, and nothing else.
+abbrev pub IsReadOn : List Read → List Read → Type 0
+IsReadOn old new = (unread new ≡ unread old) × ((c : Content) → Agree c (last_saw new) → Agree c (last_saw old))
 
 -- keys that begin like this node's down to its height, and have there a byte from the key's own up to this one, but don't begin
 -- like the other node
@@ -60,8 +88,16 @@ Chooses s byte d (Some (Past last)) = (s.key ≤ last) × ((last + 1) % 256 ≡ 
 Chooses s byte d (Some (Goes c)) = (c.name ≡ d.name) × (c.height ≡ d.height) × (1 ≤ d.height) × (d.height < s.height) × (s.key ≤ c.key) × ((c.key % 256 ≡ 0) ⊎ (s.key ≡ c.key)) × (up d.height c.key ≡ up d.height d.key)
     × ((k : ℕ) → s.key ≤ k → k < c.key → IsOutside s byte d k)
 
--- What a seat knows then.
-abbrev pub Turns : ℕ → SeatView View → SeatView View → Position → Option Turn → Type 0
-Turns caller v w s None = Unit {0}
-Turns caller v w s (Some (Past last)) = IsPassed true caller v w s.key last
-Turns caller v w s (Some (Goes c)) = (1 ≤ c.height) × (c.height < s.height) × (s.key ≤ c.key) × ((c.key % 256 ≡ 0) ⊎ (s.key ≡ c.key)) × Names w c.name c.key c.height × Reads true caller v w s.key c.key []
+-- What a seat knows then of a node that it enters there: that node, which has keys up to a limit, or its pairs, if it is a leaf.
+abbrev pub Enters : ℕ → SeatView View → SeatView View → Position → ℕ → ℕ → List (ℕ × ℕ) → Option Visit → Type 0
+Enters caller v w d limit start buffer None = Unit {0}
+Enters caller v w d limit start buffer (Some (visits.Past last)) = ⊥
+Enters caller v w d limit start buffer (Some (visits.Goes c)) = (c ≡ d) × (2 ≤ d.height) × Names w d.name d.key d.height × (w.client.seen ≡ v.client.seen)
+Enters caller v w d limit start buffer (Some (visits.Read step)) = IsStep true caller v w d.key limit start buffer step.count step.last
+
+-- What a seat knows after a visit.
+abbrev pub Visits : ℕ → SeatView View → SeatView View → Position → ℕ → ℕ → List (ℕ × ℕ) → Option Visit → Type 0
+Visits caller v w s limit start buffer None = Unit {0}
+Visits caller v w s limit start buffer (Some (visits.Past last)) = IsPassed true caller v w s.key last
+Visits caller v w s limit start buffer (Some (visits.Goes c)) = (2 ≤ c.height) × (c.height < s.height) × (s.key ≤ c.key) × (c.key ≤ limit) × ((c.key % 256 ≡ 0) ⊎ (s.key ≡ c.key)) × Names w c.name c.key c.height × Reads true caller v w s.key c.key []
+Visits caller v w s limit start buffer (Some (visits.Read step)) = IsStep true caller v w s.key limit start buffer step.count step.last

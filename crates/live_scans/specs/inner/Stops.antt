@@ -1,11 +1,19 @@
--- Where a reader's path ends.
-use Rattle.std.specs.Prelude.{◌≡◌, ◌⊎◌, ℕ, ◌%◌, ◌≤◌, Bool, true, false, [], Option, Some, None}
-use Rattle.live_nodes.specs.Seats.{SeatView}
+-- Where a reader's path begins and ends.
+use Rattle.std.specs.Prelude.{◌≡◌, ℕ, ◌≤◌, false, List, Option, Some, None, IfSome}
+use Rattle.word_book.specs.Book.{Book, Name}
+use Rattle.live_nodes.specs.Nodes.{Content}
+use Rattle.live_nodes.specs.Seats.{SeatView, Agree}
+use Rattle.live_nodes.specs.Rows.{AreOf}
+use Rattle.live_layout.specs.Words as cells
+use Rattle.live_law.specs.Levels.{Shape, place_at}
+use Rattle.live_law.specs.Tree.{IsOf}
 use Rattle.live_law.specs.Views.{View}
 use Rattle.live_reads.specs.Paths.{Names}
 use Rattle.live_reads.specs.Roots.{Begins}
-use Rattle.live_scans.specs.inner.Moments.{IsPassed, Reads}
+use Rattle.live_scans.specs.inner.Moments.{IsPassed}
 use Rattle.live_scans.specs.declared.position.Position.{Position}
+use Rattle.live_scans.specs.declared.position.PathNode.{PathNode}
+use Rattle.live_scans.specs.declared.position.Trail.{Trail}
 use Rattle.live_scans.specs.declared.seek.Reach.{Reach}
 use Rattle.live_scans.specs.declared.seek.Reach.TheVariants as reaches
 
@@ -13,14 +21,23 @@ use Rattle.live_scans.specs.declared.seek.Reach.TheVariants as reaches
 abbrev pub IsPosition : SeatView View → Position → Type 0
 IsPosition v s = (2 ≤ s.height) × (s.height ≤ 8) × Names v s.name s.key s.height
 
--- It is at a leaf: upwards that may be a later one, before which there is nothing, downwards it is that of the key.
-abbrev pub IsAtLeaf : Bool → ℕ → SeatView View → SeatView View → ℕ → ℕ → ℕ → Type 0
-IsAtLeaf true caller v w key name first = (key ≤ first) × ((first % 256 ≡ 0) ⊎ (key ≡ first)) × Names w name first 1 × Reads true caller v w key first []
-IsAtLeaf false caller v w key name first = (first ≡ key) × Names w name first 1
+-- These are the words of a node that the seat has met. Where its head is this one, it is what it was met as.
+pub record HasWords (v : SeatView View) (b : Book) (s : Position) (words : List Name) (head : ℕ) : Type 0 where
+  pub names : Names v s.name s.key s.height
+  pub are : AreOf (place_at names.spot) b words
+  pub sure : (saw : List (ℕ × ℕ)) (shape : Shape) → ((c : Content) → Agree c saw → cells.at c 0 ≡ head) → IsOf names.spot shape saw → shape ≡ names.spot.shape
 
-abbrev pub Reaches : Bool → ℕ → SeatView View → SeatView View → ℕ → Reach → Type 0
-Reaches up caller v w key (reaches.Past last) = IsPassed up caller v w key last
-Reaches up caller v w key (reaches.Leaf name first) = IsAtLeaf up caller v w key name first
+abbrev pub IsPathNode : SeatView View → Book → PathNode → Type 0
+IsPathNode v b s = IsPosition v s.at × IfSome s.known (λ k. HasWords v b s.at k.words.now k.head)
+
+-- both of a trail's nodes
+abbrev pub IsTrail : SeatView View → Book → Trail → Type 0
+IsTrail v b t = IsPathNode v b t.low × IsPathNode v b t.high
+
+-- Downwards: past keys that are absent, or at the leaf of the key, which has that name.
+abbrev pub Reaches : ℕ → SeatView View → SeatView View → ℕ → Reach → Type 0
+Reaches caller v w key (reaches.Past last) = IsPassed false caller v w key last
+Reaches caller v w key (reaches.Leaf name) = Names w name key 1
 
 -- A reader began, and is at the root. Or it has seen no more.
 abbrev pub Starts : ℕ → SeatView View → SeatView View → ℕ → Option Position → Type 0

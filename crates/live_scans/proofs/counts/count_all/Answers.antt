@@ -23,7 +23,7 @@ loop-stepped-init c =
       pairs = [];
       read = nothing_read true u.client.seen 0 0 (omega arith);
       count_is = refl;
-      position = c.requires.position;
+      trail = ((c.requires.position, tt), (c.requires.position, tt));
     }
 
 pub read_on-requires-clause-root_word : goal.read_on-requires-clause-root_word
@@ -109,5 +109,5 @@ loop-stepped-preserved c =
       pairs = ps;
       read = read;
       count_is = long;
-      position = t.position;
+      trail = t.trail;
     }

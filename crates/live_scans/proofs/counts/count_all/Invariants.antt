@@ -3,7 +3,7 @@ use Rattle.spec_map.specs.Map.{Pairs}
 use Rattle.live_scans.specs.inner.Moments.{SeesMore}
 use Rattle.live_reads.specs.Paths.{Keeps}
 use Rattle.live_scans.specs.Scans.{HasRead}
-use Rattle.live_scans.specs.inner.Stops.{IsPosition}
+use Rattle.live_scans.specs.inner.Stops.{IsTrail}
 use Rattle.live_scans.proofs.counts.count_all.Given as goal
 
 abbrev pub invariant-loop-stepped : goal.invariant-loop-stepped
@@ -18,7 +18,7 @@ invariant-loop-stepped l = record {
   pairs : Pairs ℕ;
   read : HasRead true l.fn.seat.view.client.seen l.seat.view.client.seen 0 l.from pairs;
   count_is : l.count ≡ length pairs;
-  position : IfSome l.at (IsPosition l.seat.view);
+  trail : IfSome l.at (IsTrail l.seat.view l.seat.book);
 }
 
 abbrev pub decreases-loop-stepped : goal.decreases-loop-stepped

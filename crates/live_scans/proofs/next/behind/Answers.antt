@@ -49,13 +49,13 @@ returns-then-not-check g c =
     let seat = c.check.ensures.seat in
     let w = c.check.new.seat.view in
     let missed = whole_missed v c.args.seat.now.book c.args.here.words.now c.args.here.taken c.args.at.name c.args.at.key c.args.at.height n.here v refl c.index-words-0.result.key (at_word g (goal.at.returns-then-not-check g c).After-index-words-0) g.A.Asks.ask.caller w tells.0 tells.2 (search rules) in
-    record { book = seat.0; id = seat.1; keeps = missed.0; seen = seen_equal c.args.seat.now.id v w (ap (λ (z : View). z.seen) missed.1); turns = tt }
+    record { book = seat.0; id = seat.1; keeps = missed.0; seen = seen_equal c.args.seat.now.id v w (ap (λ (z : View). z.seen) missed.1); passed = tt }
 
 pub returns-then-last-at : goal.returns-then-last-at
 returns-then-last-at g c =
     let seat = c.check.ensures.seat in
     let x = checked g (goal.at.returns-then-last-at g c).After-check (search rules) in
-    record { book = seat.0; id = seat.1; keeps = x.0; seen = x.1.fits; turns = tt }
+    record { book = seat.0; id = seat.1; keeps = x.0; seen = x.1.fits; passed = tt }
 
 pub returns : goal.returns
 returns g c =
@@ -77,7 +77,7 @@ returns g c =
       id = seat.1;
       keeps = read.0;
       seen = x.fits;
-      turns = record {
+      passed = record {
         order = omega (arith, c.if-last-at.false);
         seam = omega (arith, c.if-last-ne255.false);
         reads = none_read true c.args.seat.now.id v w (IsWithin height key 255) key (last + 1) none (λ k from to. is_within height key last 255 k (omega (arith, high)) (omega arith) c.last_of-last.ensures from (omega (arith, to)));

@@ -1,14 +1,15 @@
-use Rattle.std.proofs.Common.{rules, sym, subst, ◌≡◌, ◌∙◌, ℕ, List, None}
-use Rattle.share_rule.specs.History.{Entry}
+use Rattle.std.proofs.Common.{rules, arith, subst, true, ◌≡◌, ◌+◌, ◌∙◌, ℕ, Some}
+use Rattle.live_layout.specs.Page.{pairs_of}
 use Rattle.live_reads.proofs.Finds.{keeps_then}
-use Rattle.live_scans.specs.inner.Moments.{SeesMore, HasNone}
-use Rattle.live_scans.specs.inner.Nexts.{IsOutside, Turns}
+use Rattle.live_scans.specs.inner.Moments.{HasNone}
+use Rattle.live_scans.specs.inner.Nexts.{IsOutside, Chooses}
+use Rattle.live_scans.specs.declared.next.Turn.TheVariants as turns
 use Rattle.live_scans.proofs.Passes.{seen_equal, Stays, stays_then}
-use Rattle.live_scans.proofs.Composed.{none_since}
-use Rattle.live_scans.proofs.Nexts.{none_to, turns_of}
+use Rattle.live_scans.proofs.Composed.{none_since, none_read}
+use Rattle.live_scans.proofs.Nexts.{visits_of, passed_before, lower_as}
 use Rattle.live_scans.proofs.next.beside.Given.{Over}
 use Rattle.live_scans.proofs.next.beside.Goals as goal
-use Rattle.live_scans.proofs.next.beside.Goals.{After-watch_next, After-is_still, After-arrive}
+use Rattle.live_scans.proofs.next.beside.Goals.{After-watch_next, After-is_still, In_ok-last, In-Goes}
 
 -- WHAT STAYS, step by step
 module _ (g : Over) (c : After-watch_next g) where
@@ -24,53 +25,82 @@ module _ (g : Over) (c : After-is_still g) where
       let t = c.is_still.ensures in
       stays_then c.args.seat.now.book c.watch_next.new.seat.book c.is_still.new.seat.book c.args.seat.now.id c.watch_next.new.seat.id c.is_still.new.seat.id c.args.seat.now.view c.watch_next.new.seat.view c.is_still.new.seat.view (watched g (goal.at.After-is_still g c).After-watch_next) (t.book, t.id, t.keeps, t.seen)
 
-module _ (g : Over) (c : After-arrive g) where
-  arrived : Stays c.args.seat.now.book c.arrive.new.seat.book c.args.seat.now.id c.arrive.new.seat.id c.args.seat.now.view c.arrive.new.seat.view
-  arrived =
-      let t = c.arrive.ensures in
-      let s = still g (goal.at.After-arrive g c).After-is_still in
-      (t.book ∙ s.0, t.id ∙ s.1, keeps_then c.args.seat.now.view c.is_still.new.seat.view c.arrive.new.seat.view s.2 t.keeps, subst (λ (h : List (Entry ℕ)). SeesMore h c.args.seat.now.id c.args.seat.now.view.client.seen) (sym t.seen) s.3)
+-- none is before the child
+module _ (g : Over) (c : In_ok-last g) where
+  none : HasNone c.args.seat.now.id c.args.seat.now.view c.is_still.new.seat.view (IsOutside c.args.at c.args.child.0 c.in_ok-lower.lower.node)
+  none =
+      let before = watched g (goal.at.In_ok-last g c).After-watch_next in
+      let v₂ = c.watch_next.new.seat.view in
+      let v₃ = c.is_still.new.seat.view in
+      let Outside = IsOutside c.args.at c.args.child.0 c.in_ok-lower.lower.node in
+      none_since c.args.seat.now.id c.args.seat.now.view v₂ v₃ Outside before.3 (subst (λ (z : ℕ). HasNone z v₂ v₃ Outside) before.1 (c.if-not-is_still.ensures.none (search rules)))
+
+-- which is next
+module _ (g : Over) (c : In-Goes g) where
+  chosen : c.choose.result ≡ Some (turns.Goes c.in-Goes.node)
+  chosen = search rules
 
 pub watch_next-requires-clause-near : goal.watch_next-requires-clause-near
 watch_next-requires-clause-near g c = c.meet_under.ensures.near (search rules)
 
-pub returns-in_err-lower : goal.returns-in_err-lower
-returns-in_err-lower g c =
-    let t = watched g (goal.at.returns-in_err-lower g c).After-watch_next in
-    let out : c.from_residual.result ≡ None = search rules in
-    record { book = t.0; id = t.1; keeps = t.2; seen = t.3; turns = subst (λ z. Turns c.args.seat.now.id c.args.seat.now.view c.watch_next.new.seat.view c.args.at z) (sym out) tt }
+pub returns-in_err-lower-clause-keeps : goal.returns-in_err-lower-clause-keeps
+returns-in_err-lower-clause-keeps g c = (watched g (goal.at.returns-in_err-lower-clause-keeps g c).After-watch_next).2
 
-pub returns-then-not-is_still : goal.returns-then-not-is_still
-returns-then-not-is_still g c =
-    let t = still g (goal.at.returns-then-not-is_still g c).After-is_still in
-    record { book = t.0; id = t.1; keeps = t.2; seen = t.3; turns = tt }
+pub returns-then-not-is_still-clause-keeps : goal.returns-then-not-is_still-clause-keeps
+returns-then-not-is_still-clause-keeps g c = (still g (goal.at.returns-then-not-is_still-clause-keeps g c).After-is_still).2
 
-pub arrive-requires : goal.arrive-requires
-arrive-requires g c = record { head = c.is_still.ensures.head (search rules) }
+pub returns-in_err-last-clause-keeps : goal.returns-in_err-last-clause-keeps
+returns-in_err-last-clause-keeps g c = (still g (goal.at.returns-in_err-last-clause-keeps g c).After-is_still).2
 
-pub returns-then-not-arrive : goal.returns-then-not-arrive
-returns-then-not-arrive g c =
-    let t = arrived g (goal.at.returns-then-not-arrive g c).After-arrive in
-    record { book = t.0; id = t.1; keeps = t.2; seen = t.3; turns = tt }
+pub returns-then-node-request-clause-keeps : goal.returns-then-node-request-clause-keeps
+returns-then-node-request-clause-keeps g c = (still g (goal.at.returns-then-node-request-clause-keeps g c).After-is_still).2
 
-pub returns : goal.returns
-returns g c =
-    let at = goal.at.returns g c in
-    let t = arrived g at.After-arrive in
-    let before = watched g at.After-watch_next in
-    let v = c.args.seat.now.view in
-    let id = c.args.seat.now.id in
-    let v₂ = c.watch_next.new.seat.view in
-    let v₃ = c.is_still.new.seat.view in
-    let v₄ = c.arrive.new.seat.view in
-    let l = c.in_ok-lower.lower in
-    let Is = IsOutside c.args.at c.args.byte l.node in
-    let none = subst (λ (z : ℕ). HasNone z v₂ v₃ Is) before.1 (c.is_still.ensures.none (search rules)) in
-    let names = c.arrive.ensures.named (search rules) in
-    record {
-      book = t.0;
-      id = t.1;
-      keeps = t.2;
-      seen = t.3;
-      turns = turns_of id v v₄ c.args.at c.args.byte l.node c.choose.result (none_to id v v₃ v₄ Is c.arrive.ensures.seen (none_since id v v₂ v₃ Is before.3 none)) names c.choose.ensures;
+pub returns-in-Past-clause-keeps : goal.returns-in-Past-clause-keeps
+returns-in-Past-clause-keeps g c = (still g (goal.at.returns-in-Past-clause-keeps g c).After-is_still).2
+
+pub returns-in-Past-clause-visits : goal.returns-in-Past-clause-visits
+returns-in-Past-clause-visits g c =
+    let at = c.args.at in
+    let byte = c.args.child.0 in
+    let d = c.in_ok-lower.lower.node in
+    let chosen : c.choose.result ≡ Some (turns.Past c.in-Past.last) = search rules in
+    let h = subst (Chooses at byte d) chosen c.choose.ensures in record {
+      order = h.0;
+      seam = h.1;
+      reads = none_read true c.args.seat.now.id c.args.seat.now.view c.is_still.new.seat.view (IsOutside at byte d) at.key (c.in-Past.last + 1) (none g (goal.at.returns-in-Past-clause-visits g c).In_ok-last) h.2;
+    }
+
+pub returns-then-node-request-clause-visits : goal.returns-then-node-request-clause-visits
+returns-then-node-request-clause-visits g c =
+    let at = c.args.at in
+    let byte = c.args.child.0 in
+    let d = c.in_ok-lower.lower.node in
+    let n = c.in-Goes.node in
+    let h = subst (Chooses at byte d) (chosen g (goal.at.returns-then-node-request-clause-visits g c).In-Goes) c.choose.ensures in
+    passed_before c.args.seat.now.id c.args.seat.now.view c.is_still.new.seat.view at byte d n c.args.request.limit (none g (goal.at.returns-then-node-request-clause-visits g c).In_ok-last) h c.requires.order (omega (arith, c.if-node-request.true))
+
+pub enter_lower-requires-clause-lower : goal.enter_lower-requires-clause-lower
+enter_lower-requires-clause-lower g c =
+    let at = c.args.at in
+    let d = c.in_ok-lower.lower.node in
+    let n = c.in-Goes.node in
+    let h = subst (Chooses at c.args.child.0 d) (chosen g (goal.at.enter_lower-requires-clause-lower g c).In-Goes) c.choose.ensures in
+    let l = c.in_ok-lower.lower.here in
+    lower_as c.is_still.new.seat.view c.is_still.new.seat.book c.args.here.words.now c.args.here.taken at c.args.child d n l.words.now l.taken h.0 h.1 h.6 (c.if-not-is_still.ensures.lower (search rules))
+
+pub returns-else-node-request : goal.returns-else-node-request
+returns-else-node-request g c =
+    let at = goal.at.returns-else-node-request g c in
+    let t = still g at.After-is_still in
+    let e = c.enter_lower.ensures in
+    let all = stays_then c.args.seat.now.book c.is_still.new.seat.book c.enter_lower.new.seat.book c.args.seat.now.id c.is_still.new.seat.id c.enter_lower.new.seat.id c.args.seat.now.view c.is_still.new.seat.view c.enter_lower.new.seat.view t (e.book, e.id, e.keeps, e.seen) in
+    let d = c.in_ok-lower.lower.node in
+    let n = c.in-Goes.node in
+    let h = subst (Chooses c.args.at c.args.child.0 d) (chosen g at.In-Goes) c.choose.ensures in record {
+      before = e.before;
+      book = all.0;
+      id = all.1;
+      keeps = all.2;
+      seen = all.3;
+      visits = visits_of c.is_still.new.seat.id c.args.seat.now.id c.args.seat.now.view c.is_still.new.seat.view c.enter_lower.new.seat.view c.args.at c.args.child.0 d n c.args.request.limit c.args.request.start (pairs_of g.P.RangeEntry.pair c.enter_lower.new.buffer) c.enter_lower.result t.1 (none g at.In_ok-last) h (omega (arith, c.if-node-request.false)) e.enters;
     }

@@ -51,7 +51,7 @@ loop-stepped-init g c =
       order = begins.2;
       within = c.requires.order;
       seam = begins.1;
-      position = c.requires.position;
+      trail = ((c.requires.position, tt), (c.requires.position, tt));
       read = begins.0;
     }
 
@@ -105,7 +105,7 @@ loop-stepped-preserved g c =
       order = on.2;
       within = next.within;
       seam = on.1;
-      position = c.in_ok-stepped.ensures.position;
+      trail = c.in_ok-stepped.ensures.trail;
       read = on.0;
     }
 

@@ -3,7 +3,7 @@ use Rattle.live_layout.specs.Order.{IsFrom}
 use Rattle.live_layout.specs.Page.{pairs_of}
 use Rattle.live_reads.specs.Paths.{Keeps}
 use Rattle.live_scans.specs.inner.Moments.{SeesMore}
-use Rattle.live_scans.specs.inner.Stops.{IsPosition}
+use Rattle.live_scans.specs.inner.Stops.{IsTrail}
 use Rattle.live_scans.proofs.Passes.{HasReadTo, BeginsLeaf, left}
 use Rattle.live_scans.proofs.page.page.Given as goal
 
@@ -17,7 +17,7 @@ invariant-loop-stepped g l = record {
   order : IsFrom l.bound.up l.key l.from;
   within : IsFrom l.bound.up l.from l.bound.limit;
   seam : BeginsLeaf l.bound.up l.key l.from;
-  position : IfSome l.at (IsPosition l.seat.view);
+  trail : IfSome l.at (IsTrail l.seat.view l.seat.book);
   read : HasReadTo l.bound.up l.fn.seat.view.client.seen l.seat.view.client.seen l.key l.from (take l.count (pairs_of g.P.RangeEntry.pair l.buffer));
 }
 

@@ -22,7 +22,7 @@ returns-in-Some g c =
       id = t.id ∙ i.id;
       keeps = keeps_then u v w i.keeps t.keeps;
       seen = seen_since c.loop.seat.id id u v w i.id i.seen t.seen;
-      position = t.position;
+      trail = t.trail;
       step = step_since c.args.bound.up c.loop.seat.id id u v w c.args.key c.args.bound.limit c.args.start s.count s.last (pairs_of g.P.RangeEntry.pair c.try_step.new.buffer) i.id i.seen t.step;
     }
 
@@ -39,6 +39,6 @@ loop-preserved g c =
       id = t.id ∙ i.id;
       keeps = keeps_then u v w i.keeps t.keeps;
       seen = seen_since c.loop.seat.id id u v w i.id i.seen t.seen;
-      position = tt;
+      trail = tt;
       before = t.before ∙ i.before;
     }

@@ -2,8 +2,8 @@ use Rattle.std.proofs.Common.{false}
 use Rattle.live_law.specs.Views.{ask}
 use Rattle.live_scans.proofs.page.try_step.Given as goal
 
-abbrev pub ghosts-seek_on : goal.ghosts-seek_on
-ghosts-seek_on g a = record { ask = ask a.seat.now.id a.position.key 0 0; reads = false }
+abbrev pub ghosts-step_up : goal.ghosts-step_up
+ghosts-step_up g a = record { ask = ask a.seat.now.id 0 0 0; reads = false }
 
-abbrev pub ghosts-leaf_page : goal.ghosts-leaf_page
-ghosts-leaf_page g a = record { ask = ask a.seat.now.id 0 0 0; reads = false }
+abbrev pub ghosts-step_down : goal.ghosts-step_down
+ghosts-step_down g a = record { ask = ask a.seat.now.id a.at.key 0 0; reads = false }

@@ -86,7 +86,7 @@ returns-in_err-here g c =
       keeps = entered.2;
       seen = seen_equal id u a entered.3;
       position = when_out (λ s. IsPosition a s.position) c.from_residual.result out;
-      reaches = when_out (λ s. Reaches false id u a c.args.position.key s.reach) c.from_residual.result out;
+      reaches = when_out (λ s. Reaches id u a c.args.position.key s.reach) c.from_residual.result out;
     }
 
 pub loop-step-init : goal.loop-step-init
@@ -113,7 +113,7 @@ returns-in_err-step g c =
       keeps = t.2;
       seen = t.3;
       position = when_out (λ s. IsPosition w s.position) c.from_residual-in_err-step.result out;
-      reaches = when_out (λ s. Reaches false c.args.seat.now.id c.args.seat.now.view w c.args.position.key s.reach) c.from_residual-in_err-step.result out;
+      reaches = when_out (λ s. Reaches c.args.seat.now.id c.args.seat.now.view w c.args.position.key s.reach) c.from_residual-in_err-step.result out;
     }
 
 pub gap-requires-clause-named : goal.gap-requires-clause-named
@@ -139,7 +139,7 @@ returns-in_err-first-in-Ends g c =
       keeps = t.2;
       seen = t.3;
       position = when_out (λ s. IsPosition x s.position) c.from_residual-in_err-first-in-Ends.result out;
-      reaches = when_out (λ s. Reaches false c.args.seat.now.id c.args.seat.now.view x c.args.position.key s.reach) c.from_residual-in_err-first-in-Ends.result out;
+      reaches = when_out (λ s. Reaches c.args.seat.now.id c.args.seat.now.view x c.args.position.key s.reach) c.from_residual-in_err-first-in-Ends.result out;
     }
 
 pub returns-in-Ends : goal.returns-in-Ends
@@ -172,7 +172,7 @@ returns-then-lower-eq1 g c =
       keeps = t.2;
       seen = t.3;
       position = position g d w (keeps_same w);
-      reaches = (refl, leaf);
+      reaches = leaf;
     }
 
 pub returns-in_err-first-in-Mismatches : goal.returns-in_err-first-in-Mismatches
@@ -186,7 +186,7 @@ returns-in_err-first-in-Mismatches g c =
       keeps = t.2;
       seen = t.3;
       position = when_out (λ s. IsPosition x s.position) c.from_residual-in_err-first-in-Mismatches.result out;
-      reaches = when_out (λ s. Reaches false c.args.seat.now.id c.args.seat.now.view x c.args.position.key s.reach) c.from_residual-in_err-first-in-Mismatches.result out;
+      reaches = when_out (λ s. Reaches c.args.seat.now.id c.args.seat.now.view x c.args.position.key s.reach) c.from_residual-in_err-first-in-Mismatches.result out;
     }
 
 pub returns-in-Mismatches : goal.returns-in-Mismatches
