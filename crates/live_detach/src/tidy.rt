@@ -19,7 +19,7 @@ pub fn detach_one(nodes: &Nodes, key: u64, seat: &mut Seat) -> Result<Taken, Sta
         × (seat.new.view.client.seen ≡ seat.old.view.client.seen) }
     ensures named { IfOk result (λ taken. Sights seat.new.view taken.name) }
 {
-    let Some(End { position, mismatch }) = descend(nodes, key, seat) else {
+    let Some(End { position, mismatch, .. }) = descend(nodes, key, seat) else {
         return Err(Stays::Busy);
     };
     if mismatch.is_some() || position.height >= 8 {

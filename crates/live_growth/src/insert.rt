@@ -1,6 +1,7 @@
 //! An insertion.
 ghost use Rattle.std.specs.Prelude.{◌≡◌, ◌<◌, ◌≤◌, Some};
 ghost use Rattle.live_law.specs.Views.{ask};
+ghost use Rattle.live_reads.specs.Paths.{IsOpen};
 ghost use Rattle.live_reads.specs.Positions.{KnowsPosition, HasMismatch};
 ghost use Rattle.live_growth.specs.Rooms.{HasGrown};
 ghost use Rattle.live_growth.specs.Calls.{IsReady, Inserts};
@@ -159,11 +160,11 @@ fn refusal_of(lacks: bool) -> Refusal {
     }
 }
 
-/// Gives a leaf's key a value, or makes room there for it: `Busy`. So it is too where a writer came in between. `OutOfMemory`
+/// Gives a key of an open leaf a value, or makes room there for it: `Busy`. So it is too where a writer came in between. `OutOfMemory`
 /// where a node is lacking.
 fn insert_at(
     nodes: &Nodes,
-    position: Position,
+    end: End<'_>,
     key: u64,
     value: u64,
     room: &mut Room,
@@ -171,13 +172,15 @@ fn insert_at(
 ) -> Result<Option<u64>, Refusal>
     requires book { seat.old.book ≡ nodes.now }
     requires ready { IsReady seat.old.view room.old }
-    requires position { KnowsPosition seat.old.view key position }
-    requires leaf { position.height ≡ 1 }
+    requires position { KnowsPosition seat.old.view key end.position }
+    requires leaf { let here = end.here
+        in IsOpen seat.old.view seat.old.book here.words.now here.taken end.position.name key 1 }
     ensures told { (seat.new.book ≡ seat.old.book) × (seat.new.id ≡ seat.old.id)
         × IsReady seat.new.view room.new
         × Inserts (ask seat.old.id key value 1) result seat.old.view seat.new.view }
 {
-    match insert_here::<Brand>(nodes, position.name, key, value, seat) {
+    let End { position, here, .. } = end;
+    match insert_here::<Brand>(here, position.name, key, value, seat) {
         Ok(old) => Ok(old),
         Err(Hindrance::Full) => Err(refusal_of(enlarge(nodes, position, key, room, seat))),
         Err(Hindrance::Busy) => Err(Refusal::Busy),
@@ -238,16 +241,21 @@ fn insert_once(
         × IsReady seat.new.view room.new
         × Inserts (ask seat.old.id key value 1) result seat.old.view seat.new.view }
 {
-    let Some(End { position, mismatch }) = descend(nodes, key, seat) else {
+    let Some(end) = descend(nodes, key, seat) else {
         return Err(Refusal::Busy);
     };
+    let End {
+        position,
+        mismatch,
+        ..
+    } = end;
     if let Some(mismatch) = mismatch {
         return Err(refusal_of(part(nodes, position, mismatch, key, room, seat)));
     }
     if position.height > 1 {
         return Err(refusal_of(extend(nodes, position, key, room, seat)));
     }
-    insert_at(nodes, position, key, value, room, seat)
+    insert_at(nodes, end, key, value, room, seat)
 }
 
 /// More room where a node is lacking. Without memory for that, larger nodes serve from then on. `false` where they do already.

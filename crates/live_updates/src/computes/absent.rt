@@ -80,7 +80,7 @@ fn enter_once<U: Updates>(
         × IsReady seat.new.view room.new
         × Tries U.update result seat.old.view seat.new.view }
 {
-    let Some(End { position, mismatch }) = descend(nodes, key, seat) else {
+    let Some(End { position, mismatch, .. }) = descend(nodes, key, seat) else {
         return Tried::Again;
     };
     if let Some(mismatch) = mismatch {
