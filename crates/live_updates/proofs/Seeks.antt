@@ -19,6 +19,7 @@ use Rattle.live_law.specs.Views.{View}
 use Rattle.live_law.specs.Tree.{IsMap, IsOfKind, Answers}
 use Rattle.live_reads.specs.Mismatches.{IsMismatched}
 use Rattle.live_reads.specs.Paths.{IsOpen, Keeps, Sights}
+use Rattle.live_reads.proofs.Finds.{names_kept}
 use Rattle.live_reads.proofs.Views.{learned_keeps, may_check_open, open_checked, open_missed}
 use Rattle.live_updates.specs.declared.lookup.Site.{Site}
 use Rattle.live_updates.specs.declared.lookup.Site.TheVariants as sites
@@ -65,13 +66,13 @@ lacks_so q b v w e l = subst (λ (z : Bool). Lacks q z v w) e l
 pub lacks_not : (q : Lookup) (b : Bool) (v w : Seen) → b ≡ false → Lacks q b v w → w.client.seen ≡ v.client.seen
 lacks_not q b v w e l = subst (λ (z : Bool). Lacks q z v w) e l
 
-pub sought_later : (q : Lookup) (o : Option Site) (u v w : Seen) → v.client.seen ≡ u.client.seen → Sought q o v w → Sought q o u w
-sought_later q None u v w e s = s ∙ e
-sought_later q (Some sites.Absent) u v w e s = ends_later q.caller (q.entry None) u v w e s
-sought_later q (Some (sites.At name x)) u v w e s = (ends_later q.caller (q.entry (Some x)) u v w e s.0, s.1)
+pub sought_later : (q : Lookup) (b : Book) (o : Option Site) (u v w : Seen) → v.client.seen ≡ u.client.seen → Sought q b o v w → Sought q b o u w
+sought_later q b None u v w e s = s ∙ e
+sought_later q b (Some sites.Absent) u v w e s = ends_later q.caller (q.entry None) u v w e s
+sought_later q b (Some (sites.At leaf x)) u v w e s = (ends_later q.caller (q.entry (Some x)) u v w e s.0, s.1)
 
-pub sought_none : (q : Lookup) (o : Option Site) (v w : Seen) → o ≡ None → w.client.seen ≡ v.client.seen → Sought q o v w
-sought_none q o v w e same = subst (λ (z : Option Site). Sought q z v w) (sym e) same
+pub sought_none : (q : Lookup) (b : Book) (o : Option Site) (v w : Seen) → o ≡ None → w.client.seen ≡ v.client.seen → Sought q b o v w
+sought_none q b o v w e same = subst (λ (z : Option Site). Sought q b z v w) (sym e) same
 
 pub found_some : (q : Lookup) (o : Option (Option ℕ)) (x : Option ℕ) (v w : Seen) → Found q o v w → o ≡ Some x → EndsBy q.caller (q.entry x) v w
 found_some q o x v w f e = subst (λ (z : Option (Option ℕ)). Found q z v w) e f
@@ -145,6 +146,25 @@ module _ {v v₂ : Seen} {b : Book} {words : List Name} {t name key height k : �
         let kind : IsOfKind its.shape.height under = subst (λ (z : Shape). IsOfKind z.height (lookup x.is.its.children (digit z.height q.key))) shape_is x.of_kind in
         let then : Seeks q t (asked_by q) v.client its under h.0 h.1 = subst (λ (z : Shape). Covers z q.key → Seeks q t (asked_by q) v.client (spot its.number z) (lookup x.is.its.children (digit z.height q.key)) h.0 h.1) shape_is x.on_path covers in
         at_end q v w h.0 (read its.number t saw_it ∷ r.node.opened.before) h.1 h.2 t height its under found end (subst (λ (z : ℕ). IsOfKind z under) r.node.names.high kind) below then
+
+    -- and the node stays open
+    pub seek_open : m ≡ t → ((c : Content) → Agree c saw_it → Agree c r.node.opened.saw) → Keeps v w → IsOpen w b words t name key height
+    seek_open hit kept keeps =
+        let h = (open_checked v b words t its r.node.names.placed r.node.opened v₂ r.rest k r.at_k (LearnsSeek q) w m told).hit hit in record {
+          names = names_kept v w name key height keeps r.node.names;
+          opened = record { are = r.node.opened.are; saw = saw_it; before = r.node.opened.before; reads = ap (λ (z : Seen). z.reads) h.2 };
+          free = r.node.free;
+          sure = λ s is. r.node.sure s record {
+            now = is.now;
+            content = is.content;
+            its = is.its;
+            agrees = kept is.content is.agrees;
+            encodes = is.encodes;
+            in_form = is.in_form;
+            deep = is.deep;
+            prefixed = is.prefixed;
+          };
+        }
 
 -- AN OPEN NODE was read that leads on to one whose path the key leaves.
 pub record LeadsAside (v : Seen) (b : Book) (words : List Name) (t name key height k : ℕ) (q : Lookup) : Type 0 where

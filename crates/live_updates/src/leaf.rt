@@ -3,14 +3,15 @@ ghost use Rattle.std.specs.Prelude.{◌≡◌, ℕ, [], length, Some, None};
 ghost use Rattle.spec_node.specs.TableNode.{TableNode};
 ghost use Rattle.live_layout.specs.Words.{Stays, Looks};
 ghost use Rattle.live_layout.specs.Encodes.{words_of, IsCounted, Encodes};
-ghost use Rattle.live_reads.specs.Paths.{Names};
 ghost use Rattle.live_growth.specs.Holds.{HasRest};
 ghost use Rattle.live_growth.specs.Calls.{IsReady};
+ghost use Rattle.live_updates.specs.inner.Lookups.{IsOpenLeaf};
 ghost use Rattle.live_updates.specs.inner.Updates.{IsUpdate, IsSet, Updated, missed_by};
 
+use crate::lookup::Leaf;
 use live_detach::shrink_node::{Fill, fill_of, shrink_on_path};
 use live_detach::tidy::tidy;
-use live_growth::held::{lock_node, unlock_same};
+use live_growth::held::{lock_open, unlock_same};
 use live_growth::link::Room;
 use live_law::law::{MapLaw, MapView};
 use live_layout::change::{change, is_full, put, take};
@@ -20,7 +21,7 @@ use live_layout::words::{AsReadWords, WriteWords};
 use live_nodes::node;
 use live_nodes::plays::OnLock;
 use live_nodes::rows::LockedWords;
-use live_reads::path::{Nodes, Seat, byte_at, words_at};
+use live_reads::path::{Nodes, Seat, byte_at};
 use node_base::base_node::NodeType;
 use std::marker::{Brand, PhantomData};
 
@@ -184,32 +185,29 @@ fn left_in<S, D: WriteWords<S>>(draft: &D, form: NodeType, new: Option<u64>, sea
     fill_of(draft, form, seat)
 }
 
-/// Gives a key of a leaf what it is to have, if it has what is expected. Otherwise nothing is written. How many keys the leaf has
+/// Gives a key of an open leaf what it is to have, if it has what is expected. Otherwise nothing is written. How many keys the leaf has
 /// then, where one was taken out.
 fn update_leaf<U: Updates>(
-    nodes: &Nodes,
-    name: u64,
+    leaf: Leaf<'_>,
     key: u64,
     old: Option<u64>,
     new: Option<u64>,
     seat: &mut Seat,
 ) -> Result<Fill, Missed>
-    requires book { seat.old.book ≡ nodes.now }
     requires asks { (U.update.key ≡ key) × (U.update.caller ≡ seat.old.id) }
     requires values { (U.update.old ≡ old) × (U.update.new ≡ new) }
     requires legal { IsUpdate U.update }
-    requires named { Names seat.old.view name key 1 }
+    requires open { IsOpenLeaf seat.old.view seat.old.book key leaf }
     requires rests { (seat.old.view.client.own ≡ []) × (seat.old.view.holds ≡ []) }
     ensures told { (seat.new.book ≡ seat.old.book) × (seat.new.id ≡ seat.old.id)
         × HasRest seat.old.view seat.new.view
         × Updated U.update (missed_by result) seat.old.view seat.new.view }
 {
-    let Some(words) = words_at(nodes, name) else {
-        return Err(Missed::Busy);
-    };
+    let Leaf { here, name } = leaf;
+    let words = here.words;
     let form = form_below(name);
     let byte = byte_at(key, 1);
-    let Some(free) = lock_node(words, name, 1, key, seat) else {
+    let Some(free) = lock_open(here, name, 1, key, seat) else {
         return Err(Missed::Busy);
     };
     let held: LockedWords<'_, MapView, MapLaw, 0> = LockedWords { words };
@@ -222,36 +220,34 @@ fn update_leaf<U: Updates>(
     Ok(left)
 }
 
-/// Gives a key of a leaf what it is to have, if it has what is expected. Otherwise nothing is written.
+/// Gives a key of an open leaf what it is to have, if it has what is expected. Otherwise nothing is written.
 pub fn update_here<U: Updates>(
-    nodes: &Nodes,
-    name: u64,
+    leaf: Leaf<'_>,
     key: u64,
     old: Option<u64>,
     new: Option<u64>,
     seat: &mut Seat,
 ) -> Option<Missed>
-    requires book { seat.old.book ≡ nodes.now }
     requires asks { (U.update.key ≡ key) × (U.update.caller ≡ seat.old.id) }
     requires values { (U.update.old ≡ old) × (U.update.new ≡ new) }
     requires legal { IsUpdate U.update }
-    requires named { Names seat.old.view name key 1 }
+    requires open { IsOpenLeaf seat.old.view seat.old.book key leaf }
     requires rests { (seat.old.view.client.own ≡ []) × (seat.old.view.holds ≡ []) }
     ensures told { (seat.new.book ≡ seat.old.book) × (seat.new.id ≡ seat.old.id)
         × HasRest seat.old.view seat.new.view
         × Updated U.update result seat.old.view seat.new.view }
 {
-    match update_leaf::<U>(nodes, name, key, old, new, seat) {
+    match update_leaf::<U>(leaf, key, old, new, seat) {
         Ok(_) => None,
         Err(missed) => Some(missed),
     }
 }
 
-/// Gives a key of a leaf what it is to have, if it has what is expected. Otherwise nothing is written. A leaf without keys is taken
+/// Gives a key of an open leaf what it is to have, if it has what is expected. Otherwise nothing is written. A leaf without keys is taken
 /// out of the map, and one that is left with few goes into the next smaller form.
 pub fn exchange_here<U: Updates>(
     nodes: &Nodes,
-    name: u64,
+    leaf: Leaf<'_>,
     key: u64,
     old: Option<u64>,
     new: Option<u64>,
@@ -263,18 +259,18 @@ pub fn exchange_here<U: Updates>(
     requires values { (U.update.old ≡ old) × (U.update.new ≡ new) }
     requires legal { IsUpdate U.update }
     requires ready { IsReady seat.old.view room.old }
-    requires named { Names seat.old.view name key 1 }
+    requires open { IsOpenLeaf seat.old.view seat.old.book key leaf }
     ensures told { (seat.new.book ≡ seat.old.book) × (seat.new.id ≡ seat.old.id)
         × IsReady seat.new.view room.new
         × Updated U.update result seat.old.view seat.new.view }
 {
-    match update_leaf::<U>(nodes, name, key, old, new, seat) {
+    match update_leaf::<U>(leaf, key, old, new, seat) {
         Ok(Fill::Empty) => {
             tidy(nodes, key, room, seat);
             None
         }
         Ok(left) => {
-            shrink_on_path(nodes, name, left, key, room, seat);
+            shrink_on_path(nodes, leaf.name, left, key, room, seat);
             None
         }
         Err(missed) => Some(missed),

@@ -1,5 +1,5 @@
 //! A look-up of a key, which may end a call: the key's value, and its leaf.
-ghost use Rattle.std.specs.Prelude.{◌≡◌, ◌≤◌};
+ghost use Rattle.std.specs.Prelude.{◌≡◌, ◌≤◌, IfSome};
 ghost use Rattle.live_reads.specs.Paths.{KnowsRootWord, Sights, IsOpen, Keeps};
 ghost use Rattle.live_updates.specs.inner.Lookups.{IsLookup, MaySight, Found, Lacks, Sought};
 
@@ -28,11 +28,18 @@ impl Lookups for Brand {
     ghost lookup = { lookup_of 0 0 (λ _. None) };
 }
 
-/// A key is absent, or it is in the leaf of that name and has that value.
-#[derive(Clone, Copy, Debug, PartialEq, Eq)]
-pub enum Site {
+/// A leaf that a seat has opened, with its name.
+#[derive(Clone, Copy)]
+pub struct Leaf<'a> {
+    pub here: Opened<'a>,
+    pub name: u64,
+}
+
+/// A key is absent, or it is in that leaf, which is open, and has that value.
+#[derive(Clone, Copy)]
+pub enum Site<'a> {
     Absent,
-    At(u64, u64),
+    At(Leaf<'a>, u64),
 }
 
 /// A call ends at a node, or goes on with what was found there.
@@ -46,7 +53,7 @@ impl<Q: Lookups> OnCheck<MapView> for Learn<Q> {
     ghost told = { LearnsSeek Q.lookup };
 }
 
-/// What an open leaf has under the key's digit. `None` where a writer came in between.
+/// What an open leaf has under the key's digit. It stays open. `None` where a writer came in between.
 pub fn ends_in<Q: Lookups>(
     here: Opened<'_>,
     name: u64,
@@ -59,6 +66,8 @@ pub fn ends_in<Q: Lookups>(
     ensures told { (seat.new.book ≡ seat.old.book) × (seat.new.id ≡ seat.old.id)
         × Keeps seat.old.view seat.new.view
         × Found Q.lookup result seat.old.view seat.new.view }
+    ensures still { let at = here.entry in IfSome result (λ found.
+        IsOpen seat.new.view seat.new.book at.words.now at.taken name key 1) }
 {
     let Opened { words, taken } = here;
     let form = form_below(name);
@@ -155,14 +164,14 @@ pub fn is_absent<Q: Lookups>(
 }
 
 // The key is absent at a node where its path ends. `None` where a writer came in between.
-fn absent_at<Q: Lookups>(
-    nodes: &Nodes,
+fn absent_at<'a, Q: Lookups>(
+    nodes: &'a Nodes,
     name: u64,
     height: usize,
     below: Option<u64>,
     key: u64,
     seat: &mut Seat,
-) -> Option<Site>
+) -> Option<Site<'a>>
     requires book { seat.old.book ≡ nodes.now }
     requires asks { (Q.lookup.key ≡ key) × (Q.lookup.caller ≡ seat.old.id) }
     requires legal { IsLookup Q.lookup }
@@ -171,7 +180,7 @@ fn absent_at<Q: Lookups>(
     requires below { MaySight seat.old.view below }
     ensures told { (seat.new.book ≡ seat.old.book) × (seat.new.id ≡ seat.old.id)
         × Keeps seat.old.view seat.new.view
-        × Sought Q.lookup result seat.old.view seat.new.view }
+        × Sought Q.lookup seat.new.book result seat.old.view seat.new.view }
 {
     if is_absent::<Q>(nodes, name, height, below, key, seat) {
         return Some(Site::Absent);
@@ -179,15 +188,16 @@ fn absent_at<Q: Lookups>(
     None
 }
 
-/// Where a key is. The call has ended there, if it ends by what was found. `None` where a writer came in between.
-pub fn seek<Q: Lookups>(nodes: &Nodes, key: u64, seat: &mut Seat) -> Option<Site>
+/// Where a key is: its leaf is open. The call has ended there, if it ends by what was found. `None` where a writer came in
+/// between.
+pub fn seek<'a, Q: Lookups>(nodes: &'a Nodes, key: u64, seat: &mut Seat) -> Option<Site<'a>>
     requires book { seat.old.book ≡ nodes.now }
     requires asks { (Q.lookup.key ≡ key) × (Q.lookup.caller ≡ seat.old.id) }
     requires legal { IsLookup Q.lookup }
     requires root_word { KnowsRootWord seat.old.view }
     ensures told { (seat.new.book ≡ seat.old.book) × (seat.new.id ≡ seat.old.id)
         × Keeps seat.old.view seat.new.view
-        × Sought Q.lookup result seat.old.view seat.new.view }
+        × Sought Q.lookup seat.new.book result seat.old.view seat.new.view }
 {
     let mut name = root(nodes, key, seat)?;
     let mut height = 8usize;
@@ -207,7 +217,7 @@ pub fn seek<Q: Lookups>(nodes: &Nodes, key: u64, seat: &mut Seat) -> Option<Site
         }
     }
     match ends_in::<Q>(here, name, key, seat)? {
-        Some(value) => Some(Site::At(name, value)),
+        Some(value) => Some(Site::At(Leaf { here, name }, value)),
         None => Some(Site::Absent),
     }
 }

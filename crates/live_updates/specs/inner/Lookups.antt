@@ -9,8 +9,10 @@ use Rattle.live_nodes.specs.Seats.{Place, SeatView}
 use Rattle.live_law.specs.Levels.{Spot}
 use Rattle.live_law.specs.Views.{Watch, View, view_of, Ask, ask, got}
 use Rattle.live_law.specs.Tree.{Answers, Parts, LearnsNode}
-use Rattle.live_reads.specs.Paths.{Names, Sights}
+use Rattle.live_reads.specs.Paths.{Sights, IsOpen}
+use Rattle.word_book.specs.Book.{Book}
 use Rattle.live_updates.specs.Entries.{removed, swapped}
+use Rattle.live_updates.specs.declared.lookup.Leaf.{Leaf}
 use Rattle.live_updates.specs.declared.lookup.Site.{Site}
 use Rattle.live_updates.specs.declared.lookup.Site.TheVariants as sites
 
@@ -71,11 +73,15 @@ abbrev pub Lacks : Lookup → Bool → SeatView View → SeatView View → Type 
 Lacks q true v w = EndsBy q.caller (q.entry None) v w
 Lacks q false v w = w.client.seen ≡ v.client.seen
 
--- The key is absent, or is in a leaf. Nothing is known where a writer came in between.
-abbrev pub Sought : Lookup → Option Site → SeatView View → SeatView View → Type 0
-Sought q None v w = w.client.seen ≡ v.client.seen
-Sought q (Some sites.Absent) v w = EndsBy q.caller (q.entry None) v w
-Sought q (Some (sites.At name x)) v w = EndsBy q.caller (q.entry (Some x)) v w × Names w name q.key 1
+-- The leaf of a key is open.
+abbrev pub IsOpenLeaf : SeatView View → Book → ℕ → Leaf → Type 0
+IsOpenLeaf v b key l = IsOpen v b l.here.words.now l.here.taken l.name key 1
+
+-- The key is absent, or is in a leaf, which is open. Nothing is known where a writer came in between.
+abbrev pub Sought : Lookup → Book → Option Site → SeatView View → SeatView View → Type 0
+Sought q b None v w = w.client.seen ≡ v.client.seen
+Sought q b (Some sites.Absent) v w = EndsBy q.caller (q.entry None) v w
+Sought q b (Some (sites.At leaf x)) v w = EndsBy q.caller (q.entry (Some x)) v w × IsOpenLeaf w b q.key leaf
 
 -- A removal ends where the key is absent.
 abbrev pub removal : ℕ → ℕ → Option ℕ → Option (Entry ℕ)

@@ -1,5 +1,6 @@
 //! A key that is absent gets a value.
 ghost use Rattle.std.specs.Prelude.{◌≡◌, Some, None};
+ghost use Rattle.live_reads.specs.Paths.{IsOpen};
 ghost use Rattle.live_reads.specs.Positions.{KnowsPosition};
 ghost use Rattle.live_growth.specs.Calls.{IsReady};
 ghost use Rattle.live_nodes.specs.Seats.{SeatView};
@@ -8,11 +9,12 @@ ghost use Rattle.live_updates.specs.inner.Updates.{Update, IsUpdate};
 ghost use Rattle.live_updates.specs.inner.Ends.{Tries, Enters};
 
 use crate::leaf::{Missed, Updates, update_here};
+use crate::lookup::Leaf;
 use live_growth::insert::{enlarge, extend, part};
 use live_growth::link::Room;
 use live_growth::map::{Refusal, TRIES};
 use live_growth::refill::Refills;
-use live_reads::descend::{End, Position, descend};
+use live_reads::descend::{End, descend};
 use live_reads::path::{Nodes, Seat};
 
 /// How a try ends: the key has the value, it has another one already, it is to be tried again, or a node is lacking.
@@ -32,10 +34,10 @@ fn tried_with(lacks: bool) -> Tried
     if lacks { Tried::Lacks } else { Tried::Again }
 }
 
-/// Gives an absent key of a leaf a value, or makes room there for it.
+/// Gives an absent key of an open leaf a value, or makes room there for it.
 fn enter_at<U: Updates>(
     nodes: &Nodes,
-    position: Position,
+    end: End<'_>,
     key: u64,
     value: u64,
     room: &mut Room,
@@ -46,13 +48,19 @@ fn enter_at<U: Updates>(
     requires values { (U.update.old ≡ None) × (U.update.new ≡ Some value) }
     requires legal { IsUpdate U.update }
     requires ready { IsReady seat.old.view room.old }
-    requires position { KnowsPosition seat.old.view key position }
-    requires leaf { position.height ≡ 1 }
+    requires position { KnowsPosition seat.old.view key end.position }
+    requires leaf { let here = end.here
+        in IsOpen seat.old.view seat.old.book here.words.now here.taken end.position.name key 1 }
     ensures told { (seat.new.book ≡ seat.old.book) × (seat.new.id ≡ seat.old.id)
         × IsReady seat.new.view room.new
         × Tries U.update result seat.old.view seat.new.view }
 {
-    match update_here::<U>(nodes, position.name, key, None, Some(value), seat) {
+    let End { position, here, .. } = end;
+    let leaf = Leaf {
+        here,
+        name: position.name,
+    };
+    match update_here::<U>(leaf, key, None, Some(value), seat) {
         None => Tried::Entered,
         Some(Missed::Changed) => Tried::Present,
         Some(Missed::Full) => {
@@ -80,16 +88,21 @@ fn enter_once<U: Updates>(
         × IsReady seat.new.view room.new
         × Tries U.update result seat.old.view seat.new.view }
 {
-    let Some(End { position, mismatch, .. }) = descend(nodes, key, seat) else {
+    let Some(end) = descend(nodes, key, seat) else {
         return Tried::Again;
     };
+    let End {
+        position,
+        mismatch,
+        ..
+    } = end;
     if let Some(mismatch) = mismatch {
         return tried_with(part(nodes, position, mismatch, key, room, seat));
     }
     if position.height > 1 {
         return tried_with(extend(nodes, position, key, room, seat));
     }
-    enter_at::<U>(nodes, position, key, value, room, seat)
+    enter_at::<U>(nodes, end, key, value, room, seat)
 }
 
 /// Gives an absent key a value, as by `enter_once`. Where a node is lacking, more are asked for instead. `Lacks` where there are

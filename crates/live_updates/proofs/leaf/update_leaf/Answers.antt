@@ -14,20 +14,20 @@ use Rattle.share_rule.specs.History.{Entry}
 use Rattle.live_updates.specs.inner.Updates.{Writes}
 use Rattle.live_updates.proofs.Leaves.{leaf_updates}
 use Rattle.live_updates.proofs.Written.{set_leaf, kept_leaf, encodes_few}
-use Rattle.live_growth.proofs.Locks.{taken_by, holds_one, may_hold, draft_is, wrote_one, may_free, is_freed, alike_then}
+use Rattle.live_growth.proofs.Locks.{taken_by, are_named, holds_one, may_hold, draft_is, wrote_one, may_free, is_freed, alike_then}
 use Rattle.live_updates.proofs.leaf.update_leaf.Given.{Over}
 use Rattle.live_updates.proofs.leaf.update_leaf.Goals as goal
-use Rattle.live_updates.proofs.leaf.update_leaf.Goals.{In-Some-lock_node, After-set, After-index-words-0}
+use Rattle.live_updates.proofs.leaf.update_leaf.Goals.{In-Some, After-set, After-index-words-0}
 
 abbrev Seen : Type 0
 Seen = SeatView View
 
 -- THE LEAF is locked
-module _ (g : Over) (c : In-Some-lock_node g) where
-  leaf : HasLocked c.args.seat.now.view c.lock_node.new.seat.view c.args.name c.args.key 1 c.in-Some-lock_node.free
+module _ (g : Over) (c : In-Some g) where
+  leaf : HasLocked c.args.seat.now.view c.lock_open.new.seat.view c.args.leaf.name c.args.key 1 c.in-Some.free
   leaf =
-      let locked : c.lock_node.result ≡ Some c.in-Some-lock_node.free = search rules in
-      taken_by c.lock_node.result c.in-Some-lock_node.free locked (HasLocked c.args.seat.now.view c.lock_node.new.seat.view c.args.name c.args.key 1) c.lock_node.ensures.told.2
+      let locked : c.lock_open.result ≡ Some c.in-Some.free = search rules in
+      taken_by c.lock_open.result c.in-Some.free locked (HasLocked c.args.seat.now.view c.lock_open.new.seat.view c.args.leaf.name c.args.key 1) c.lock_open.ensures.told.2
 
   abbrev a : Spot
   a = leaf.names.spot
@@ -35,18 +35,18 @@ module _ (g : Over) (c : In-Some-lock_node g) where
   form : c.form_below-form.result ≡ a.shape.form
   form = c.form_below-form.ensures a.shape.key a.shape.form leaf.names.named
 
-  one : HoldsOne c.lock_node.new.seat.view c.lock_node.new.seat.book c.in-Some.words.now c.in-Some-lock_node.free a leaf.content leaf.content
+  one : HoldsOne c.lock_open.new.seat.view c.lock_open.new.seat.book c.args.leaf.here.words.now c.in-Some.free a leaf.content leaf.content
   one =
-      let are = subst (λ z. AreNamed z c.args.name c.in-Some.words.now) (sym (c.lock_node.ensures.told.0 ∙ c.requires.book)) c.in-Some.ensures in
-      holds_one c.args.seat.now.view c.lock_node.new.seat.view c.args.name c.args.key 1 c.in-Some-lock_node.free leaf c.lock_node.new.seat.book c.in-Some.words.now are c.requires.rests.0 c.requires.rests.1
+      let are = subst (λ z. AreNamed z c.args.leaf.name c.args.leaf.here.words.now) (sym c.lock_open.ensures.told.0) (are_named c.args.seat.now.view c.args.seat.now.book c.args.leaf.here.words.now c.args.leaf.here.taken c.args.leaf.name c.args.key 1 c.requires.open) in
+      holds_one c.args.seat.now.view c.lock_open.new.seat.view c.args.leaf.name c.args.key 1 c.in-Some.free leaf c.lock_open.new.seat.book c.args.leaf.here.words.now are c.requires.rests.0 c.requires.rests.1
 
-  drafted : draft_of (nth 0 c.lock_node.new.seat.view.holds) ≡ leaf.content
-  drafted = draft_is c.lock_node.new.seat.view c.lock_node.new.seat.book c.in-Some.words.now c.in-Some-lock_node.free a leaf.content leaf.content one
+  drafted : draft_of (nth 0 c.lock_open.new.seat.view.holds) ≡ leaf.content
+  drafted = draft_is c.lock_open.new.seat.view c.lock_open.new.seat.book c.args.leaf.here.words.now c.in-Some.free a leaf.content leaf.content one
 
 -- It may be written.
 module _ (g : Over) (c : After-set g) where
-  abbrev first : In-Some-lock_node g
-  first = (goal.at.After-set g c).In-Some-lock_node
+  abbrev first : In-Some g
+  first = (goal.at.After-set g c).In-Some
 
   abbrev d : Content
   d = draft_of (nth 0 c.set.new.seat.view.holds)
@@ -54,51 +54,51 @@ module _ (g : Over) (c : After-set g) where
   digit_is : c.byte_at-byte.result ≡ digit 1 g.U.Updates.update.key
   digit_is = c.byte_at-byte.ensures ∙ ap (digit 1) (sym c.requires.asks.0)
 
-  wrote : HoldsOne c.set.new.seat.view c.lock_node.new.seat.book c.in-Some.words.now c.in-Some-lock_node.free (a g first) (leaf g first).content d × Alike c.lock_node.new.seat.view c.set.new.seat.view × (c.set.new.seat.view.client ≡ c.lock_node.new.seat.view.client)
-  wrote = wrote_one c.lock_node.new.seat.view c.set.new.seat.view c.lock_node.new.seat.book c.in-Some.words.now c.in-Some-lock_node.free (a g first) (leaf g first).content (leaf g first).content (one g first) (ap (λ s. s.view) c.set.ensures.seat.others)
+  wrote : HoldsOne c.set.new.seat.view c.lock_open.new.seat.book c.args.leaf.here.words.now c.in-Some.free (a g first) (leaf g first).content d × Alike c.lock_open.new.seat.view c.set.new.seat.view × (c.set.new.seat.view.client ≡ c.lock_open.new.seat.view.client)
+  wrote = wrote_one c.lock_open.new.seat.view c.set.new.seat.view c.lock_open.new.seat.book c.args.leaf.here.words.now c.in-Some.free (a g first) (leaf g first).content (leaf g first).content (one g first) (ap (λ s. s.view) c.set.ensures.seat.others)
 
-  on : HoldsOne c.set.new.seat.view c.set.new.seat.book c.in-Some.words.now c.in-Some-lock_node.free (a g first) (leaf g first).content d
-  on = subst (λ z. HoldsOne c.set.new.seat.view z c.in-Some.words.now c.in-Some-lock_node.free (a g first) (leaf g first).content d) (sym (ap (λ s. s.book) c.set.ensures.seat.others)) wrote.0
+  on : HoldsOne c.set.new.seat.view c.set.new.seat.book c.args.leaf.here.words.now c.in-Some.free (a g first) (leaf g first).content d
+  on = subst (λ z. HoldsOne c.set.new.seat.view z c.args.leaf.here.words.now c.in-Some.free (a g first) (leaf g first).content d) (sym (ap (λ s. s.book) c.set.ensures.seat.others)) wrote.0
 
   alike : Alike c.args.seat.now.view c.set.new.seat.view
-  alike = alike_then c.args.seat.now.view c.lock_node.new.seat.view c.set.new.seat.view (leaf g first).alike wrote.1
+  alike = alike_then c.args.seat.now.view c.lock_open.new.seat.view c.set.new.seat.view (leaf g first).alike wrote.1
 
   book : c.set.new.seat.book ≡ c.args.seat.now.book
-  book = ap (λ s. s.book) c.set.ensures.seat.others ∙ c.lock_node.ensures.told.0
+  book = ap (λ s. s.book) c.set.ensures.seat.others ∙ c.lock_open.ensures.told.0
 
   id : c.set.new.seat.id ≡ c.args.seat.now.id
-  id = ap (λ s. s.id) c.set.ensures.seat.others ∙ c.lock_node.ensures.told.1
+  id = ap (λ s. s.id) c.set.ensures.seat.others ∙ c.lock_open.ensures.told.1
 
 -- It is written, and its keys may be counted.
 module _ (g : Over) (c : After-index-words-0 g) where
   abbrev written : After-set g
   written = (goal.at.After-index-words-0 g c).After-set
 
-  abbrev locked_of : In-Some-lock_node g
+  abbrev locked_of : In-Some g
   locked_of = first g written
 
-  counted : HoldsOne c.left_in-left.new.seat.view c.left_in-left.new.seat.book c.in-Some.words.now c.in-Some-lock_node.free (a g locked_of) (leaf g locked_of).content (d g written)
-  counted = subst (λ s. HoldsOne s.view s.book c.in-Some.words.now c.in-Some-lock_node.free (a g locked_of) (leaf g locked_of).content (d g written)) (sym c.left_in-left.ensures.seat.same) (on g written)
+  counted : HoldsOne c.left_in-left.new.seat.view c.left_in-left.new.seat.book c.args.leaf.here.words.now c.in-Some.free (a g locked_of) (leaf g locked_of).content (d g written)
+  counted = subst (λ s. HoldsOne s.view s.book c.args.leaf.here.words.now c.in-Some.free (a g locked_of) (leaf g locked_of).content (d g written)) (sym c.left_in-left.ensures.seat.same) (on g written)
 
-  client : c.left_in-left.new.seat.view.client ≡ c.lock_node.new.seat.view.client
+  client : c.left_in-left.new.seat.view.client ≡ c.lock_open.new.seat.view.client
   client = ap (λ s. s.view.client) c.left_in-left.ensures.seat.same ∙ (wrote g written).2
 
   at_k : (a g locked_of).shape.key ≡ c.index-words-0.result.key
-  at_k = (first_word (place_at (a g locked_of)) c.left_in-left.new.seat.book c.in-Some.words.now counted.are c.index-words-0.result c.index-words-0.result (sym c.index-words-0.is)).0
+  at_k = (first_word (place_at (a g locked_of)) c.left_in-left.new.seat.book c.args.leaf.here.words.now counted.are c.index-words-0.result c.index-words-0.result (sym c.index-words-0.is)).0
 
 pub set-requires-clause-may : goal.set-requires-clause-may
 set-requires-clause-may g c =
-    let k = (goal.at.set-requires-clause-may g c).In-Some-lock_node in
-    may_hold c.lock_node.new.seat.view c.lock_node.new.seat.book c.in-Some.words.now c.in-Some-lock_node.free (a g k) (leaf g k).content (leaf g k).content (one g k) (leaf g k).long
+    let k = (goal.at.set-requires-clause-may g c).In-Some in
+    may_hold c.lock_open.new.seat.view c.lock_open.new.seat.book c.args.leaf.here.words.now c.in-Some.free (a g k) (leaf g k).content (leaf g k).content (one g k) (leaf g k).long
 
 pub set-requires-clause-long : goal.set-requires-clause-long
 set-requires-clause-long g c =
-    let k = (goal.at.set-requires-clause-long g c).In-Some-lock_node in
+    let k = (goal.at.set-requires-clause-long g c).In-Some in
     ap (λ (z : Content). length z) (drafted g k) ∙ ((leaf g k).long ∙ ap words_of (sym (form g k)))
 
 pub set-requires-clause-few : goal.set-requires-clause-few
 set-requires-clause-few g c =
-    let k = (goal.at.set-requires-clause-few g c).In-Some-lock_node in
+    let k = (goal.at.set-requires-clause-few g c).In-Some in
     let h = leaf g k in
     subst (λ (z : Content). IsCounted c.form_below-form.result z) (sym (drafted g k)) (encodes_few h.content h.its c.form_below-form.result (h.in_form ∙ sym (form g k)) h.encodes)
 
@@ -109,8 +109,8 @@ unlock_same-requires-clause-holds g c =
     let h = leaf g k in
     let kept : c.set.result ≡ Some c.in-Some-set.missed = search rules in
     let deep : length h.its.prefix ≡ 7 = (let e = h.deep in omega (arith, e)) in
-    let same = kept_leaf g.U.Updates.update c.byte_at-byte.result c.args.old c.args.new (digit_is g s) c.requires.values.0 c.requires.values.1 c.form_below-form.result h.content (draft_of (nth 0 c.lock_node.new.seat.view.holds)) (d g s) (drafted g k) c.set.result c.in-Some-set.missed kept c.set.ensures.is h.its h.encodes (h.in_form ∙ sym (form g k)) deep in
-    (a g k, h.content, subst (λ z. HoldsOne c.set.new.seat.view c.set.new.seat.book c.in-Some.words.now c.in-Some-lock_node.free (a g k) h.content z) same (on g s))
+    let same = kept_leaf g.U.Updates.update c.byte_at-byte.result c.args.old c.args.new (digit_is g s) c.requires.values.0 c.requires.values.1 c.form_below-form.result h.content (draft_of (nth 0 c.lock_open.new.seat.view.holds)) (d g s) (drafted g k) c.set.result c.in-Some-set.missed kept c.set.ensures.is h.its h.encodes (h.in_form ∙ sym (form g k)) deep in
+    (a g k, h.content, subst (λ z. HoldsOne c.set.new.seat.view c.set.new.seat.book c.args.leaf.here.words.now c.in-Some.free (a g k) h.content z) same (on g s))
 
 pub returns-in-Some-set : goal.returns-in-Some-set
 returns-in-Some-set g c =
@@ -136,11 +136,11 @@ unlock-requires-clause-frees g c =
     let done : c.set.result ≡ None = search rules in
     let by = c.requires.asks.1 ∙ sym (ap (λ z. z.id) c.left_in-left.ensures.seat.same ∙ id g s) in
     let covers = ap (up (a g k).shape.height) c.requires.asks.0 ∙ h.names.covers in
-    let changes = set_leaf q c.byte_at-byte.result c.args.old c.args.new (digit_is g s) c.requires.values.0 c.requires.values.1 c.form_below-form.result h.content (draft_of (nth 0 c.lock_node.new.seat.view.holds)) (d g s) (drafted g k) c.set.result done c.set.ensures.is (a g k).shape.form (sym (form g k)) in
+    let changes = set_leaf q c.byte_at-byte.result c.args.old c.args.new (digit_is g s) c.requires.values.0 c.requires.values.1 c.form_below-form.result h.content (draft_of (nth 0 c.lock_open.new.seat.view.holds)) (d g s) (drafted g k) c.set.result done c.set.ensures.is (a g k).shape.form (sym (form g k)) in
     let even = h.even in
-    let updates = leaf_updates q c.requires.legal y_id by c.lock_node.new.seat.view.client (a g k) h.content (one g k).own h.names.high covers (c.in-Some-lock_node.free + 4) (c.in-Some-lock_node.free / 4 + 1) (omega (arith, even)) (d g s) (c.set.ensures.long ∙ ap words_of (form g k)) changes in
-    let frees = subst (λ (z : View). acts.Frees IsMap y_id z (a g k).number (c.in-Some-lock_node.free + 4) (d g s) (Writes q z (a g k).number (d g s))) (sym (client g t)) updates in
-    may_free c.left_in-left.new.seat.view c.left_in-left.new.seat.book c.in-Some.words.now c.in-Some-lock_node.free (a g k) h.content (d g s) (counted g t) c.index-words-0.result.key (at_k g t) (Writes q) y_id (c.in-Some-lock_node.free + 4) frees
+    let updates = leaf_updates q c.requires.legal y_id by c.lock_open.new.seat.view.client (a g k) h.content (one g k).own h.names.high covers (c.in-Some.free + 4) (c.in-Some.free / 4 + 1) (omega (arith, even)) (d g s) (c.set.ensures.long ∙ ap words_of (form g k)) changes in
+    let frees = subst (λ (z : View). acts.Frees IsMap y_id z (a g k).number (c.in-Some.free + 4) (d g s) (Writes q z (a g k).number (d g s))) (sym (client g t)) updates in
+    may_free c.left_in-left.new.seat.view c.left_in-left.new.seat.book c.args.leaf.here.words.now c.in-Some.free (a g k) h.content (d g s) (counted g t) c.index-words-0.result.key (at_k g t) (Writes q) y_id (c.in-Some.free + 4) frees
 
 pub returns : goal.returns
 returns g c =
@@ -151,7 +151,7 @@ returns g c =
     let x = c.unlock.new.seat.view in
     let e = c.unlock.ensures.seat in
     let looked = c.left_in-left.ensures.seat.same in
-    let f = is_freed c.left_in-left.new.seat.view c.left_in-left.new.seat.book c.in-Some.words.now c.in-Some-lock_node.free (a g k) (leaf g k).content (d g s) (counted g t) c.index-words-0.result.key (at_k g t) (Writes q) x (c.in-Some-lock_node.free + 4) c.unlock.ensures.told in
+    let f = is_freed c.left_in-left.new.seat.view c.left_in-left.new.seat.book c.args.leaf.here.words.now c.in-Some.free (a g k) (leaf g k).content (d g s) (counted g t) c.index-words-0.result.key (at_k g t) (Writes q) x (c.in-Some.free + 4) c.unlock.ensures.told in
     let seen = ap (λ (z : View). z.seen) (client g t) ∙ (leaf g k).seen in
     record {
       told = (

@@ -38,7 +38,7 @@ returns-in_err-here g c =
     let a = (goal.at.returns-in_err-here g c).After-open in
     let o = opened g a in
     let out : c.from_residual-in_err-here.result ≡ None = search rules in
-    record { told = (o.0, o.1, o.2, sought_none g.Q.Lookups.lookup c.from_residual-in_err-here.result c.args.seat.now.view c.open.new.seat.view out (opened_seen g a)) }
+    record { told = (o.0, o.1, o.2, sought_none g.Q.Lookups.lookup c.open.new.seat.book c.from_residual-in_err-here.result c.args.seat.now.view c.open.new.seat.view out (opened_seen g a)) }
 
 pub loop-height-init : goal.loop-height-init
 loop-height-init g c =
@@ -67,7 +67,7 @@ pub returns-in_err-step : goal.returns-in_err-step
 returns-in_err-step g c =
     let s = stepped g (goal.at.returns-in_err-step g c).After-step in
     let out : c.from_residual-in_err-step.result ≡ None = search rules in
-    record { told = (s.0, s.1, s.2, sought_none g.Q.Lookups.lookup c.from_residual-in_err-step.result c.args.seat.now.view c.step.new.seat.view out (c.in_err-step.ensures.none ∙ c.loop-height.invariant.seen)) }
+    record { told = (s.0, s.1, s.2, sought_none g.Q.Lookups.lookup c.step.new.seat.book c.from_residual-in_err-step.result c.args.seat.now.view c.step.new.seat.view out (c.in_err-step.ensures.none ∙ c.loop-height.invariant.seen)) }
 
 pub absent_at-requires-clause-sighted : goal.absent_at-requires-clause-sighted
 absent_at-requires-clause-sighted g c = sighted g (goal.at.absent_at-requires-clause-sighted g c).After-step
@@ -80,7 +80,7 @@ returns-in-Ends g c =
     let w = c.step.new.seat.view in
     let y = c.absent_at.new.seat.view in
     let e = c.absent_at.ensures.told in
-    record { told = (e.0 ∙ s.0, e.1 ∙ s.1, keeps_then u w y s.2 e.2, sought_later g.Q.Lookups.lookup c.absent_at.result u w y (follows g a.In_ok-step nexts.Ends (search rules) ∙ c.loop-height.invariant.seen) e.3) }
+    record { told = (e.0 ∙ s.0, e.1 ∙ s.1, keeps_then u w y s.2 e.2, sought_later g.Q.Lookups.lookup c.absent_at.new.seat.book c.absent_at.result u w y (follows g a.In_ok-step nexts.Ends (search rules) ∙ c.loop-height.invariant.seen) e.3) }
 
 pub loop-height-preserved : goal.loop-height-preserved
 loop-height-preserved g c =
@@ -115,7 +115,7 @@ returns-in-Mismatches g c =
     let f = follows g a.In_ok-step (nexts.Mismatches c.in-Mismatches.mismatch) (search rules) in
     let y = c.absent_at-in-Mismatches.new.seat.view in
     let e = c.absent_at-in-Mismatches.ensures.told in
-    record { told = (e.0 ∙ s.0, e.1 ∙ s.1, keeps_then u w y s.2 e.2, sought_later g.Q.Lookups.lookup c.absent_at-in-Mismatches.result u w y (f.0 ∙ c.loop-height.invariant.seen) e.3) }
+    record { told = (e.0 ∙ s.0, e.1 ∙ s.1, keeps_then u w y s.2 e.2, sought_later g.Q.Lookups.lookup c.absent_at-in-Mismatches.new.seat.book c.absent_at-in-Mismatches.result u w y (f.0 ∙ c.loop-height.invariant.seen) e.3) }
 
 pub ends_in-requires-clause-open : goal.ends_in-requires-clause-open
 ends_in-requires-clause-open g c =
@@ -132,7 +132,7 @@ returns-in_err-value g c =
     let none : c.ends_in.result ≡ None = search rules in
     let out : c.from_residual-in_err-value.result ≡ None = search rules in
     let same = found_none l c.ends_in.result c.loop-height.seat.view w c.ends_in.ensures.told.3 none in
-    record { told = (s.0, s.1, s.2, sought_none l c.from_residual-in_err-value.result c.args.seat.now.view w out (same ∙ c.loop-height.invariant.seen)) }
+    record { told = (s.0, s.1, s.2, sought_none l c.ends_in.new.seat.book c.from_residual-in_err-value.result c.args.seat.now.view w out (same ∙ c.loop-height.invariant.seen)) }
 
 pub returns-in-Some : goal.returns-in-Some
 returns-in-Some g c =
@@ -140,13 +140,11 @@ returns-in-Some g c =
     let i = c.loop-height.invariant in
     let v = c.loop-height.seat.view in
     let w = c.ends_in.new.seat.view in
-    let t = c.ends_in.ensures.told in
     let l = g.Q.Lookups.lookup in
-    let low = i.low in
-    let one : c.loop-height.height ≡ 1 = omega (arith, c.loop-height-test.false, low) in
-    let found = found_some l c.ends_in.result (Some c.in-Some.value) v w t.3 (search rules) in
-    let names = names_kept v w c.loop-height.name c.args.key 1 t.2 (subst (λ z. Names v c.loop-height.name c.args.key z) one i.node.names) in
-    record { told = (s.0, s.1, s.2, (ends_later l.caller (l.entry (Some c.in-Some.value)) c.args.seat.now.view v w i.seen found, subst (λ k. Names w c.loop-height.name k 1) (sym c.requires.asks.0) names)) }
+    let here = c.loop-height.here in
+    let found = found_some l c.ends_in.result (Some c.in-Some.value) v w c.ends_in.ensures.told.3 (search rules) in
+    let still = subst (λ k. IsOpen w c.ends_in.new.seat.book here.words.now here.taken c.loop-height.name k 1) (sym c.requires.asks.0) c.in_ok-value.ensures.still in
+    record { told = (s.0, s.1, s.2, (ends_later l.caller (l.entry (Some c.in-Some.value)) c.args.seat.now.view v w i.seen found, still)) }
 
 pub returns-in-None : goal.returns-in-None
 returns-in-None g c =
