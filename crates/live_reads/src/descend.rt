@@ -26,6 +26,7 @@ pub struct End<'a> {
 }
 
 /// Where a key's path ends as yet. `None` where a writer came in between.
+#[inline(always)]
 pub fn descend<'a>(nodes: &'a Nodes, key: u64, seat: &mut Seat) -> Option<End<'a>>
     requires book { seat.old.book ≡ nodes.now }
     requires root_word { KnowsRootWord seat.old.view }

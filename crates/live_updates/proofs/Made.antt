@@ -7,7 +7,7 @@ use Rattle.live_law.specs.Views.{View}
 use Rattle.live_law.specs.Tree.{Answers}
 use Rattle.live_updates.specs.Entries.{swapped}
 use Rattle.live_updates.specs.declared.leaf.Missed.{Missed}
-use Rattle.live_updates.specs.declared.lookup.Leaf.{Leaf}
+use Rattle.live_reads.specs.declared.descend.End.{End}
 use Rattle.live_updates.specs.declared.lookup.Site.{Site}
 use Rattle.live_updates.specs.declared.lookup.Site.TheVariants as sites
 use Rattle.live_updates.specs.inner.Lookups.{Lookup, EndsBy, Sought, Swap, swap_of, failure, exchange_fails}
@@ -22,7 +22,7 @@ no_more q b o v w e s = subst (λ (z : Option Site). Sought q b z v w) e s
 pub at_none : (q : Lookup) (b : Book) (o : Option Site) (v w : Seen) → o ≡ Some sites.Absent → Sought q b o v w → EndsBy q.caller (q.entry None) v w
 at_none q b o v w e s = subst (λ (z : Option Site). Sought q b z v w) e s
 
-pub at_some : (q : Lookup) (b : Book) (o : Option Site) (leaf : Leaf) (x : ℕ) (v w : Seen) → o ≡ Some (sites.At leaf x) → Sought q b o v w → EndsBy q.caller (q.entry (Some x)) v w
+pub at_some : (q : Lookup) (b : Book) (o : Option Site) (leaf : End) (x : ℕ) (v w : Seen) → o ≡ Some (sites.At leaf x) → Sought q b o v w → EndsBy q.caller (q.entry (Some x)) v w
 at_some q b o leaf x v w e s = (subst (λ (z : Option Site). Sought q b z v w) e s).0
 
 pub missed_same : (u : Update) (o : Option Missed) (v w : Seen) → IsSome o → Updated u o v w → w.client.seen ≡ v.client.seen

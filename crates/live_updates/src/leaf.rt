@@ -8,9 +8,8 @@ ghost use Rattle.live_growth.specs.Calls.{IsReady};
 ghost use Rattle.live_updates.specs.inner.Lookups.{IsOpenLeaf};
 ghost use Rattle.live_updates.specs.inner.Updates.{IsUpdate, IsSet, Updated, missed_by};
 
-use crate::lookup::Leaf;
 use live_detach::shrink_node::{Fill, fill_of, shrink_on_path};
-use live_detach::tidy::tidy;
+use live_detach::tidy::tidy_from;
 use live_growth::held::{lock_open, unlock_same};
 use live_growth::link::Room;
 use live_law::law::{MapLaw, MapView};
@@ -21,6 +20,7 @@ use live_layout::words::{AsReadWords, WriteWords};
 use live_nodes::node;
 use live_nodes::plays::OnLock;
 use live_nodes::rows::LockedWords;
+use live_reads::descend::End;
 use live_reads::path::{Nodes, Seat, byte_at};
 use node_base::base_node::NodeType;
 use std::marker::{Brand, PhantomData};
@@ -188,7 +188,7 @@ fn left_in<S, D: WriteWords<S>>(draft: &D, form: NodeType, new: Option<u64>, sea
 /// Gives a key of an open leaf what it is to have, if it has what is expected. Otherwise nothing is written. How many keys the leaf has
 /// then, where one was taken out.
 fn update_leaf<U: Updates>(
-    leaf: Leaf<'_>,
+    leaf: End<'_>,
     key: u64,
     old: Option<u64>,
     new: Option<u64>,
@@ -203,8 +203,8 @@ fn update_leaf<U: Updates>(
         × HasRest seat.old.view seat.new.view
         × Updated U.update (missed_by result) seat.old.view seat.new.view }
 {
-    let Leaf { here, name } = leaf;
-    let words = here.words;
+    let End { position, here, .. } = leaf;
+    let (words, name) = (here.words, position.name);
     let form = form_below(name);
     let byte = byte_at(key, 1);
     let Some(free) = lock_open(here, name, 1, key, seat) else {
@@ -222,7 +222,7 @@ fn update_leaf<U: Updates>(
 
 /// Gives a key of an open leaf what it is to have, if it has what is expected. Otherwise nothing is written.
 pub fn update_here<U: Updates>(
-    leaf: Leaf<'_>,
+    leaf: End<'_>,
     key: u64,
     old: Option<u64>,
     new: Option<u64>,
@@ -247,7 +247,7 @@ pub fn update_here<U: Updates>(
 /// out of the map, and one that is left with few goes into the next smaller form.
 pub fn exchange_here<U: Updates>(
     nodes: &Nodes,
-    leaf: Leaf<'_>,
+    leaf: End<'_>,
     key: u64,
     old: Option<u64>,
     new: Option<u64>,
@@ -266,11 +266,11 @@ pub fn exchange_here<U: Updates>(
 {
     match update_leaf::<U>(leaf, key, old, new, seat) {
         Ok(Fill::Empty) => {
-            tidy(nodes, key, room, seat);
+            tidy_from(nodes, leaf.position, key, room, seat);
             None
         }
         Ok(left) => {
-            shrink_on_path(nodes, leaf.name, left, key, room, seat);
+            shrink_on_path(nodes, leaf.position.name, left, key, room, seat);
             None
         }
         Err(missed) => Some(missed),

@@ -9,9 +9,10 @@ use live_layout::search::find;
 use live_nodes::node;
 use live_nodes::plays::OnCheck;
 use live_nodes::rows::SharedWords;
+use live_reads::descend::{End, Position, descend};
 use live_reads::mismatch::watch;
-use live_reads::path::{Nodes, Opened, Seat, byte_at, open, root};
-use live_reads::prefix_match::{Next, enter, step};
+use live_reads::path::{Nodes, Opened, Seat, byte_at};
+use live_reads::prefix_match::enter;
 use std::marker::{Brand, PhantomData};
 
 /// A look-up: who makes it, of which key, and where its call ends. A caller picks it.
@@ -28,18 +29,11 @@ impl Lookups for Brand {
     ghost lookup = { lookup_of 0 0 (λ _. None) };
 }
 
-/// A leaf that a seat has opened, with its name.
-#[derive(Clone, Copy)]
-pub struct Leaf<'a> {
-    pub here: Opened<'a>,
-    pub name: u64,
-}
-
-/// A key is absent, or it is in that leaf, which is open, and has that value.
+/// A key is absent, or its path ends at that leaf, which is open, and it has that value.
 #[derive(Clone, Copy)]
 pub enum Site<'a> {
     Absent,
-    At(Leaf<'a>, u64),
+    At(End<'a>, u64),
 }
 
 /// A call ends at a node, or goes on with what was found there.
@@ -199,25 +193,16 @@ pub fn seek<'a, Q: Lookups>(nodes: &'a Nodes, key: u64, seat: &mut Seat) -> Opti
         × Keeps seat.old.view seat.new.view
         × Sought Q.lookup seat.new.book result seat.old.view seat.new.view }
 {
-    let mut name = root(nodes, key, seat)?;
-    let mut height = 8usize;
-    let mut here = open(nodes, name, seat)?;
-    while height > 1 {
-        let step = step::<Brand>(nodes, here, name, height, key, seat)?;
-        match step.next {
-            Next::Ends => return absent_at::<Q>(nodes, name, height, None, key, seat),
-            Next::Goes(below, lower) => {
-                name = below;
-                height = lower;
-                here = step.here;
-            }
-            Next::Mismatches(mismatch) => {
-                return absent_at::<Q>(nodes, name, height, Some(mismatch.below), key, seat);
-            }
-        }
+    let end = descend(nodes, key, seat)?;
+    let Position { name, height, .. } = end.position;
+    if let Some(mismatch) = end.mismatch {
+        return absent_at::<Q>(nodes, name, height, Some(mismatch.below), key, seat);
     }
-    match ends_in::<Q>(here, name, key, seat)? {
-        Some(value) => Some(Site::At(Leaf { here, name }, value)),
+    if height > 1 {
+        return absent_at::<Q>(nodes, name, height, None, key, seat);
+    }
+    match ends_in::<Q>(end.here, name, key, seat)? {
+        Some(value) => Some(Site::At(end, value)),
         None => Some(Site::Absent),
     }
 }

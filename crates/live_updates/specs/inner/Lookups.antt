@@ -9,10 +9,11 @@ use Rattle.live_nodes.specs.Seats.{Place, SeatView}
 use Rattle.live_law.specs.Levels.{Spot}
 use Rattle.live_law.specs.Views.{Watch, View, view_of, Ask, ask, got}
 use Rattle.live_law.specs.Tree.{Answers, Parts, LearnsNode}
+use Rattle.live_reads.specs.declared.descend.End.{End}
 use Rattle.live_reads.specs.Paths.{Sights, IsOpen}
+use Rattle.live_reads.specs.Positions.{KnowsPosition}
 use Rattle.word_book.specs.Book.{Book}
 use Rattle.live_updates.specs.Entries.{removed, swapped}
-use Rattle.live_updates.specs.declared.lookup.Leaf.{Leaf}
 use Rattle.live_updates.specs.declared.lookup.Site.{Site}
 use Rattle.live_updates.specs.declared.lookup.Site.TheVariants as sites
 
@@ -73,9 +74,9 @@ abbrev pub Lacks : Lookup → Bool → SeatView View → SeatView View → Type 
 Lacks q true v w = EndsBy q.caller (q.entry None) v w
 Lacks q false v w = w.client.seen ≡ v.client.seen
 
--- The leaf of a key is open.
-abbrev pub IsOpenLeaf : SeatView View → Book → ℕ → Leaf → Type 0
-IsOpenLeaf v b key l = IsOpen v b l.here.words.now l.here.taken l.name key 1
+-- A key's path ends at a leaf, which is open.
+abbrev pub IsOpenLeaf : SeatView View → Book → ℕ → End → Type 0
+IsOpenLeaf v b key e = KnowsPosition v key e.position × IsOpen v b e.here.words.now e.here.taken e.position.name key 1
 
 -- The key is absent, or is in a leaf, which is open. Nothing is known where a writer came in between.
 abbrev pub Sought : Lookup → Book → Option Site → SeatView View → SeatView View → Type 0

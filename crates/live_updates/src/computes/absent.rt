@@ -1,15 +1,13 @@
 //! A key that is absent gets a value.
 ghost use Rattle.std.specs.Prelude.{◌≡◌, Some, None};
-ghost use Rattle.live_reads.specs.Paths.{IsOpen};
-ghost use Rattle.live_reads.specs.Positions.{KnowsPosition};
 ghost use Rattle.live_growth.specs.Calls.{IsReady};
 ghost use Rattle.live_nodes.specs.Seats.{SeatView};
 ghost use Rattle.live_law.specs.Views.{View};
+ghost use Rattle.live_updates.specs.inner.Lookups.{IsOpenLeaf};
 ghost use Rattle.live_updates.specs.inner.Updates.{Update, IsUpdate};
 ghost use Rattle.live_updates.specs.inner.Ends.{Tries, Enters};
 
 use crate::leaf::{Missed, Updates, update_here};
-use crate::lookup::Leaf;
 use live_growth::insert::{enlarge, extend, part};
 use live_growth::link::Room;
 use live_growth::map::{Refusal, TRIES};
@@ -37,7 +35,7 @@ fn tried_with(lacks: bool) -> Tried
 /// Gives an absent key of an open leaf a value, or makes room there for it.
 fn enter_at<U: Updates>(
     nodes: &Nodes,
-    end: End<'_>,
+    leaf: End<'_>,
     key: u64,
     value: u64,
     room: &mut Room,
@@ -48,23 +46,16 @@ fn enter_at<U: Updates>(
     requires values { (U.update.old ≡ None) × (U.update.new ≡ Some value) }
     requires legal { IsUpdate U.update }
     requires ready { IsReady seat.old.view room.old }
-    requires position { KnowsPosition seat.old.view key end.position }
-    requires leaf { let here = end.here
-        in IsOpen seat.old.view seat.old.book here.words.now here.taken end.position.name key 1 }
+    requires leaf { IsOpenLeaf seat.old.view seat.old.book key leaf }
     ensures told { (seat.new.book ≡ seat.old.book) × (seat.new.id ≡ seat.old.id)
         × IsReady seat.new.view room.new
         × Tries U.update result seat.old.view seat.new.view }
 {
-    let End { position, here, .. } = end;
-    let leaf = Leaf {
-        here,
-        name: position.name,
-    };
     match update_here::<U>(leaf, key, None, Some(value), seat) {
         None => Tried::Entered,
         Some(Missed::Changed) => Tried::Present,
         Some(Missed::Full) => {
-            let lacks = enlarge(nodes, position, key, room, seat);
+            let lacks = enlarge(nodes, leaf.position, key, room, seat);
             tried_with(lacks)
         }
         Some(Missed::Busy) => Tried::Again,

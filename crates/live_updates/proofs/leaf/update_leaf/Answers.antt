@@ -24,10 +24,10 @@ Seen = SeatView View
 
 -- THE LEAF is locked
 module _ (g : Over) (c : In-Some g) where
-  leaf : HasLocked c.args.seat.now.view c.lock_open.new.seat.view c.args.leaf.name c.args.key 1 c.in-Some.free
+  leaf : HasLocked c.args.seat.now.view c.lock_open.new.seat.view c.args.leaf.position.name c.args.key 1 c.in-Some.free
   leaf =
       let locked : c.lock_open.result ≡ Some c.in-Some.free = search rules in
-      taken_by c.lock_open.result c.in-Some.free locked (HasLocked c.args.seat.now.view c.lock_open.new.seat.view c.args.leaf.name c.args.key 1) c.lock_open.ensures.told.2
+      taken_by c.lock_open.result c.in-Some.free locked (HasLocked c.args.seat.now.view c.lock_open.new.seat.view c.args.leaf.position.name c.args.key 1) c.lock_open.ensures.told.2
 
   abbrev a : Spot
   a = leaf.names.spot
@@ -37,8 +37,8 @@ module _ (g : Over) (c : In-Some g) where
 
   one : HoldsOne c.lock_open.new.seat.view c.lock_open.new.seat.book c.args.leaf.here.words.now c.in-Some.free a leaf.content leaf.content
   one =
-      let are = subst (λ z. AreNamed z c.args.leaf.name c.args.leaf.here.words.now) (sym c.lock_open.ensures.told.0) (are_named c.args.seat.now.view c.args.seat.now.book c.args.leaf.here.words.now c.args.leaf.here.taken c.args.leaf.name c.args.key 1 c.requires.open) in
-      holds_one c.args.seat.now.view c.lock_open.new.seat.view c.args.leaf.name c.args.key 1 c.in-Some.free leaf c.lock_open.new.seat.book c.args.leaf.here.words.now are c.requires.rests.0 c.requires.rests.1
+      let are = subst (λ z. AreNamed z c.args.leaf.position.name c.args.leaf.here.words.now) (sym c.lock_open.ensures.told.0) (are_named c.args.seat.now.view c.args.seat.now.book c.args.leaf.here.words.now c.args.leaf.here.taken c.args.leaf.position.name c.args.key 1 c.requires.open.1) in
+      holds_one c.args.seat.now.view c.lock_open.new.seat.view c.args.leaf.position.name c.args.key 1 c.in-Some.free leaf c.lock_open.new.seat.book c.args.leaf.here.words.now are c.requires.rests.0 c.requires.rests.1
 
   drafted : draft_of (nth 0 c.lock_open.new.seat.view.holds) ≡ leaf.content
   drafted = draft_is c.lock_open.new.seat.view c.lock_open.new.seat.book c.args.leaf.here.words.now c.in-Some.free a leaf.content leaf.content one

@@ -36,7 +36,7 @@ pub enlarge-lacks-requires-clause-ready : goal.enlarge-lacks-requires-clause-rea
 enlarge-lacks-requires-clause-ready g c = ready g (goal.at.enlarge-lacks-requires-clause-ready g c).After-update_here
 
 pub enlarge-lacks-requires-clause-position : goal.enlarge-lacks-requires-clause-position
-enlarge-lacks-requires-clause-position g c = position_rest c.args.seat.now.view c.update_here.new.seat.view c.args.key c.args.end.position c.update_here.ensures.told.2 c.requires.position
+enlarge-lacks-requires-clause-position g c = position_rest c.args.seat.now.view c.update_here.new.seat.view c.args.key c.args.leaf.position c.update_here.ensures.told.2 c.requires.leaf.0
 
 pub returns-in-Some-Full : goal.returns-in-Some-Full
 returns-in-Some-Full g c =
