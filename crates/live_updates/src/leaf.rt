@@ -187,6 +187,7 @@ fn left_in<S, D: WriteWords<S>>(draft: &D, form: NodeType, new: Option<u64>, sea
 
 /// Gives a key of an open leaf what it is to have, if it has what is expected. Otherwise nothing is written. How many keys the leaf has
 /// then, where one was taken out.
+#[inline(always)]
 fn update_leaf<U: Updates>(
     leaf: End<'_>,
     key: u64,

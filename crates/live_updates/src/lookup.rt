@@ -184,6 +184,7 @@ fn absent_at<'a, Q: Lookups>(
 
 /// Where a key is: its leaf is open. The call has ended there, if it ends by what was found. `None` where a writer came in
 /// between.
+#[inline(always)]
 pub fn seek<'a, Q: Lookups>(nodes: &'a Nodes, key: u64, seat: &mut Seat) -> Option<Site<'a>>
     requires book { seat.old.book ≡ nodes.now }
     requires asks { (Q.lookup.key ≡ key) × (Q.lookup.caller ≡ seat.old.id) }
