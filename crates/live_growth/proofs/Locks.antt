@@ -64,7 +64,7 @@ module _ (v : Seen) (name key height : ℕ) (n : Names v name key height) (v₁ 
     not_locked ne = alike_read v v₂ n.spot.number t saw (tried.lost ne)
 
     -- where what was read says what the node is
-    pub is_locked_as : m ≡ t → t % 4 ≡ 0 → t < 2 ^ 62 → ((s : Shape) → IsOf n.spot s saw → s ≡ n.spot.shape) → HasLocked v v₂ name key height t
+    pub is_locked_as : m ≡ t → t % 4 ≡ 0 → t < 2 ^ 62 → ((s : Shape) → IsOf n.spot s saw → s ≡ n.spot.shape) → (h : HasLocked v v₂ name key height t) × Agree h.content saw
     is_locked_as hit even small sure =
         let w = tried.won hit in
         let h : IsHeld v.client n.spot w.0 w.1 = w.4 n.spot n.met refl in
@@ -78,30 +78,33 @@ module _ (v : Seen) (name key height : ℕ) (n : Names v name key height) (v₁ 
           in_form = h.in_form;
           deep = h.deep;
           prefixed = h.prefixed;
-        } in record {
-          names = n;
-          content = w.0;
-          own = ap (λ (z : Seen). z.client.own) w.3 ∙ (ap (λ (z : View). z.own) h.is ∙ ap (λ (z : Shape). views.locked (spot n.spot.number z) w.0 ∷ v.client.own) shape_is);
-          holds = ap (λ (z : Seen). z.holds) w.3;
-          alike = record {
-            places = ap (λ (z : Seen). z.places) w.3;
-            met = ap (λ (z : Seen). z.client.met) w.3 ∙ ap (λ (z : View). z.met) h.is;
-            room = ap (λ (z : Seen). z.room) w.3;
-          };
-          seen = ap (λ (z : Seen). z.client.seen) w.3 ∙ ap (λ (z : View). z.seen) h.is;
-          its = h.its;
-          encodes = h.encodes;
-          in_form = h.in_form;
-          deep = ap (λ (z : ℕ). length h.its.prefix + z) (sym n.high ∙ ap (λ (z : Shape). z.height) (sym shape_is)) ∙ h.deep;
-          long = w.2;
-          even = even;
-          small = small;
-          apart = h.apart;
-        }
+        } in (
+          record {
+            names = n;
+            content = w.0;
+            own = ap (λ (z : Seen). z.client.own) w.3 ∙ (ap (λ (z : View). z.own) h.is ∙ ap (λ (z : Shape). views.locked (spot n.spot.number z) w.0 ∷ v.client.own) shape_is);
+            holds = ap (λ (z : Seen). z.holds) w.3;
+            alike = record {
+              places = ap (λ (z : Seen). z.places) w.3;
+              met = ap (λ (z : Seen). z.client.met) w.3 ∙ ap (λ (z : View). z.met) h.is;
+              room = ap (λ (z : Seen). z.room) w.3;
+            };
+            seen = ap (λ (z : Seen). z.client.seen) w.3 ∙ ap (λ (z : View). z.seen) h.is;
+            its = h.its;
+            encodes = h.encodes;
+            in_form = h.in_form;
+            deep = ap (λ (z : ℕ). length h.its.prefix + z) (sym n.high ∙ ap (λ (z : Shape). z.height) (sym shape_is)) ∙ h.deep;
+            long = w.2;
+            even = even;
+            small = small;
+            apart = h.apart;
+          },
+          agrees,
+        )
 
     -- as its head does
     pub is_locked : m ≡ t → t % 4 ≡ 0 → t < 2 ^ 62 → key < 2 ^ 64 → (head : ℕ) → ((c : Content) → Agree c saw → cells.at c 0 ≡ head) → ((form : ℕ) (q : List ℕ) → IsHead head form q → Sees q key (prefix_matches.Covers height)) → HasLocked v v₂ name key height t
-    is_locked hit even small fits head at_head sees = is_locked_as hit even small (sure_by key fits saw head at_head height sees n.spot n.high n.covers)
+    is_locked hit even small fits head at_head sees = (is_locked_as hit even small (sure_by key fits saw head at_head height sees n.spot n.high n.covers)).0
 
 -- A NODE THAT IS OPEN is locked by the word that was taken of it.
 module _ (v : Seen) (b : Book) (words : List Name) (t name key height : ℕ) (o : IsOpen v b words t name key height) where
@@ -137,25 +140,29 @@ module _ (v : Seen) (b : Book) (words : List Name) (t name key height : ℕ) (o 
           let s = not_locked before_it name key height names_before v t o.opened.saw was_read k at_k v₂ m j told ne in
           (record { places = s.0.places; met = s.0.met; room = s.0.room }, s.1, s.2)
 
-      pub is_locked_open : m ≡ t → t < 2 ^ 62 → HasLocked v v₂ name key height t
+      pub is_locked_open : m ≡ t → t < 2 ^ 62 → (h : HasLocked v v₂ name key height t) × Agree h.content o.opened.saw
       unfolding is_locked_as
       is_locked_open hit small =
-          let h = is_locked_as before_it name key height names_before v t o.opened.saw was_read k at_k v₂ m j told hit o.free small o.sure in record {
-            names = o.names;
-            content = h.content;
-            own = h.own;
-            holds = h.holds;
-            alike = record { places = h.alike.places; met = h.alike.met; room = h.alike.room };
-            seen = h.seen;
-            its = h.its;
-            encodes = h.encodes;
-            in_form = h.in_form;
-            deep = h.deep;
-            long = h.long;
-            even = h.even;
-            small = h.small;
-            apart = h.apart;
-          }
+          let l = is_locked_as before_it name key height names_before v t o.opened.saw was_read k at_k v₂ m j told hit o.free small o.sure in
+          let h = l.0 in (
+            record {
+              names = o.names;
+              content = h.content;
+              own = h.own;
+              holds = h.holds;
+              alike = record { places = h.alike.places; met = h.alike.met; room = h.alike.room };
+              seen = h.seen;
+              its = h.its;
+              encodes = h.encodes;
+              in_form = h.in_form;
+              deep = h.deep;
+              long = h.long;
+              even = h.even;
+              small = h.small;
+              apart = h.apart;
+            },
+            l.1,
+          )
 
 -- A node that is held alone
 module _ (v : Seen) (b : Book) (words : List Name) (free : ℕ) (a : Spot) (c d : Content) (h : HoldsOne v b words free a c d) where

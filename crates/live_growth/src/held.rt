@@ -9,7 +9,7 @@ ghost use Rattle.live_law.specs.Levels.{Spot};
 ghost use Rattle.live_law.specs.Views.{rest_of};
 ghost use Rattle.live_law.specs.Tree.{IsMap, LinksAgain};
 ghost use Rattle.live_reads.specs.Paths.{Names, Sights, AreNamed, IsOpen};
-ghost use Rattle.live_growth.specs.Holds.{Alike, HasLocked, HasReclaimed, HoldsLast, HoldsOne, HasRest};
+ghost use Rattle.live_growth.specs.Holds.{Alike, HasLocked, HasLockedOpen, HasReclaimed, HoldsLast, HoldsOne, HasRest};
 
 use live_law::law::{Again, Asks, Fills, Locked, MapLaw, MapView, Reclaimed, Same};
 use live_layout::words::ReadWords;
@@ -60,7 +60,8 @@ pub fn lock_open(
 ) -> Option<u64>
     requires open { IsOpen seat.old.view seat.old.book here.words.now here.taken name key height }
     ensures told { (seat.new.book ≡ seat.old.book) × (seat.new.id ≡ seat.old.id)
-        × IfSome result (λ free. HasLocked seat.old.view seat.new.view name key height free)
+        × (let at = here.entry in IfSome result (HasLockedOpen seat.old.view seat.new.view
+        seat.old.book at.words.now at.taken name key height))
         × IfNone result (Alike seat.old.view seat.new.view
         × (seat.new.view.client ≡ seat.old.view.client)
         × (seat.new.view.holds ≡ seat.old.view.holds)) }

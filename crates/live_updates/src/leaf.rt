@@ -1,12 +1,13 @@
 //! A leaf is locked, and a key there gets another value, or none.
 ghost use Rattle.std.specs.Prelude.{◌≡◌, ℕ, [], length, Some, None};
+ghost use Rattle.spec_map.specs.Map.{lookup};
 ghost use Rattle.spec_node.specs.TableNode.{TableNode};
 ghost use Rattle.live_layout.specs.Words.{Stays, Looks};
 ghost use Rattle.live_layout.specs.Encodes.{words_of, IsCounted, Encodes};
 ghost use Rattle.live_growth.specs.Holds.{HasRest};
 ghost use Rattle.live_growth.specs.Calls.{IsReady};
-ghost use Rattle.live_updates.specs.inner.Lookups.{IsOpenLeaf};
-ghost use Rattle.live_updates.specs.inner.Updates.{IsUpdate, IsSet, Updated, missed_by};
+ghost use Rattle.live_updates.specs.inner.Lookups.{IsLeafWith};
+ghost use Rattle.live_updates.specs.inner.Updates.{HasExpected, IsUpdate, IsSet, Updated, missed_by};
 
 use live_detach::shrink_node::{Fill, fill_of, shrink_on_path};
 use live_detach::tidy::tidy_from;
@@ -60,7 +61,7 @@ impl<U: Updates> OnLock<MapView> for Write<U> {
     ghost told = { Writes U.update };
 }
 
-/// Gives a byte of a leaf another value, if it has the expected one.
+/// Gives a byte of a leaf another value in the place of the one that it has.
 fn replace<S, D: WriteWords<S>>(
     draft: &D,
     form: NodeType,
@@ -71,6 +72,8 @@ fn replace<S, D: WriteWords<S>>(
 ) -> Option<Missed>
     requires may { D.may_write draft.now seat.old }
     requires long { length (D.words draft.now seat.old) ≡ words_of form }
+    requires known { (n : TableNode ℕ) → Encodes (D.words draft.now seat.old) n → n.form ≡ form
+        → length n.prefix ≡ 7 → HasExpected (lookup n.children byte) (Some old) }
     ensures seat { Stays D.may_write D.rest draft.now seat.old seat.new }
     ensures long { length (D.words draft.now seat.new) ≡ words_of form }
     ensures is { (n : TableNode ℕ) → Encodes (D.words draft.now seat.old) n → n.form ≡ form
@@ -78,18 +81,14 @@ fn replace<S, D: WriteWords<S>>(
         → IsSet byte (Some old) (Some new) result (D.words draft.now seat.old)
         (D.words draft.now seat.new) n }
 {
-    let long = words_in(form);
-    let cells = AsReadWords { draft, long };
-    if find(&cells, form, byte, seat) != Some(old) {
-        return Some(Missed::Changed);
-    }
+    let _ = old;
     if change(draft, form, byte, new, seat).is_none() {
         return Some(Missed::Changed);
     }
     None
 }
 
-/// Takes a byte's value out of a leaf, if it is the expected one.
+/// Takes the value out of a leaf that a byte has.
 fn take_out<S, D: WriteWords<S>>(
     draft: &D,
     form: NodeType,
@@ -100,6 +99,8 @@ fn take_out<S, D: WriteWords<S>>(
     requires may { D.may_write draft.now seat.old }
     requires long { length (D.words draft.now seat.old) ≡ words_of form }
     requires few { IsCounted form (D.words draft.now seat.old) }
+    requires known { (n : TableNode ℕ) → Encodes (D.words draft.now seat.old) n → n.form ≡ form
+        → length n.prefix ≡ 7 → HasExpected (lookup n.children byte) (Some old) }
     ensures seat { Stays D.may_write D.rest draft.now seat.old seat.new }
     ensures long { length (D.words draft.now seat.new) ≡ words_of form }
     ensures is { (n : TableNode ℕ) → Encodes (D.words draft.now seat.old) n → n.form ≡ form
@@ -107,11 +108,7 @@ fn take_out<S, D: WriteWords<S>>(
         → IsSet byte (Some old) None result (D.words draft.now seat.old)
         (D.words draft.now seat.new) n }
 {
-    let long = words_in(form);
-    let cells = AsReadWords { draft, long };
-    if find(&cells, form, byte, seat) != Some(old) {
-        return Some(Missed::Changed);
-    }
+    let _ = old;
     if take(draft, form, byte, seat).is_none() {
         return Some(Missed::Changed);
     }
@@ -147,7 +144,8 @@ fn put_in<S, D: WriteWords<S>>(
     None
 }
 
-/// Gives a byte of a leaf what it is to have, if it has what is expected. Where both are nothing, nothing is written.
+/// Gives a byte of a leaf what it is to have, if it has what is expected. A value that is expected is known to be there. Where both
+/// are nothing, nothing is written.
 fn set<S, D: WriteWords<S>>(
     draft: &D,
     form: NodeType,
@@ -159,6 +157,8 @@ fn set<S, D: WriteWords<S>>(
     requires may { D.may_write draft.now seat.old }
     requires long { length (D.words draft.now seat.old) ≡ words_of form }
     requires few { IsCounted form (D.words draft.now seat.old) }
+    requires known { (n : TableNode ℕ) → Encodes (D.words draft.now seat.old) n → n.form ≡ form
+        → length n.prefix ≡ 7 → HasExpected (lookup n.children byte) old }
     ensures seat { Stays D.may_write D.rest draft.now seat.old seat.new }
     ensures long { length (D.words draft.now seat.new) ≡ words_of form }
     ensures is { (n : TableNode ℕ) → Encodes (D.words draft.now seat.old) n → n.form ≡ form
@@ -198,7 +198,7 @@ fn update_leaf<U: Updates>(
     requires asks { (U.update.key ≡ key) × (U.update.caller ≡ seat.old.id) }
     requires values { (U.update.old ≡ old) × (U.update.new ≡ new) }
     requires legal { IsUpdate U.update }
-    requires open { IsOpenLeaf seat.old.view seat.old.book key leaf }
+    requires open { IsLeafWith seat.old.view seat.old.book key leaf old }
     requires rests { (seat.old.view.client.own ≡ []) × (seat.old.view.holds ≡ []) }
     ensures told { (seat.new.book ≡ seat.old.book) × (seat.new.id ≡ seat.old.id)
         × HasRest seat.old.view seat.new.view
@@ -232,7 +232,7 @@ pub fn update_here<U: Updates>(
     requires asks { (U.update.key ≡ key) × (U.update.caller ≡ seat.old.id) }
     requires values { (U.update.old ≡ old) × (U.update.new ≡ new) }
     requires legal { IsUpdate U.update }
-    requires open { IsOpenLeaf seat.old.view seat.old.book key leaf }
+    requires open { IsLeafWith seat.old.view seat.old.book key leaf old }
     requires rests { (seat.old.view.client.own ≡ []) × (seat.old.view.holds ≡ []) }
     ensures told { (seat.new.book ≡ seat.old.book) × (seat.new.id ≡ seat.old.id)
         × HasRest seat.old.view seat.new.view
@@ -260,7 +260,7 @@ pub fn exchange_here<U: Updates>(
     requires values { (U.update.old ≡ old) × (U.update.new ≡ new) }
     requires legal { IsUpdate U.update }
     requires ready { IsReady seat.old.view room.old }
-    requires open { IsOpenLeaf seat.old.view seat.old.book key leaf }
+    requires open { IsLeafWith seat.old.view seat.old.book key leaf old }
     ensures told { (seat.new.book ≡ seat.old.book) × (seat.new.id ≡ seat.old.id)
         × IsReady seat.new.view room.new
         × Updated U.update result seat.old.view seat.new.view }

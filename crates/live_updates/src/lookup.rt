@@ -1,7 +1,7 @@
 //! A look-up of a key, which may end a call: the key's value, and its leaf.
 ghost use Rattle.std.specs.Prelude.{◌≡◌, ◌≤◌, IfSome};
 ghost use Rattle.live_reads.specs.Paths.{KnowsRootWord, Sights, IsOpen, Keeps};
-ghost use Rattle.live_updates.specs.inner.Lookups.{IsLookup, MaySight, Found, Lacks, Sought};
+ghost use Rattle.live_updates.specs.inner.Lookups.{IsLookup, MaySight, Found, Lacks, Sought, IsOpenWith};
 
 use live_law::law::{MapLaw, MapView};
 use live_layout::form::form_below;
@@ -60,8 +60,8 @@ pub fn ends_in<Q: Lookups>(
     ensures told { (seat.new.book ≡ seat.old.book) × (seat.new.id ≡ seat.old.id)
         × Keeps seat.old.view seat.new.view
         × Found Q.lookup result seat.old.view seat.new.view }
-    ensures still { let at = here.entry in IfSome result (λ found.
-        IsOpen seat.new.view seat.new.book at.words.now at.taken name key 1) }
+    ensures still { let at = here.entry in IfSome result
+        (IsOpenWith seat.new.view seat.new.book at.words.now at.taken name key) }
 {
     let Opened { words, taken } = here;
     let form = form_below(name);

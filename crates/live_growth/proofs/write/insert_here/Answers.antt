@@ -11,7 +11,7 @@ use Rattle.live_law.specs.Views.{View, content_of, inserted}
 use Rattle.live_law.specs.Tree.{IsMap, Inserts, Answers}
 use Rattle.live_law.proofs.Writes.{leaf_inserts}
 use Rattle.live_reads.specs.Paths.{AreNamed}
-use Rattle.live_growth.specs.Holds.{Alike, HasLocked, HoldsOne}
+use Rattle.live_growth.specs.Holds.{Alike, HasLocked, HasLockedOpen, HoldsOne}
 use Rattle.live_reads.proofs.Views.{first_word}
 use Rattle.share_rule.specs.History.{Entry}
 use Rattle.live_growth.proofs.Written.{changes_leaf, stays_leaf, found_leaf}
@@ -25,7 +25,8 @@ module _ (g : Over) (c : In-Some g) where
   leaf : HasLocked c.args.seat.now.view c.lock_open.new.seat.view c.args.name c.args.key 1 c.in-Some.free
   leaf =
       let locked : c.lock_open.result ≡ Some c.in-Some.free = search rules in
-      taken_by c.lock_open.result c.in-Some.free locked (HasLocked c.args.seat.now.view c.lock_open.new.seat.view c.args.name c.args.key 1) c.lock_open.ensures.told.2
+      let open_node = HasLockedOpen c.args.seat.now.view c.lock_open.new.seat.view c.args.seat.now.book c.args.here.words.now c.args.here.taken c.args.name c.args.key 1 in
+      (taken_by c.lock_open.result c.in-Some.free locked open_node c.lock_open.ensures.told.2 c.requires.open).0
 
   abbrev a : Spot
   a = leaf.names.spot
@@ -103,6 +104,9 @@ write-requires-clause-long g c =
     let k = (goal.at.write-requires-clause-long g c).In-Some in
     ap (λ (z : List ℕ). length z) (was g k) ∙ ((leaf g k).long ∙ ap words_of (sym (form g k)))
 
+pub unlock_same-requires-clause-word : goal.unlock_same-requires-clause-word
+unlock_same-requires-clause-word g c = let h = leaf g (goal.at.unlock_same-requires-clause-word g c).In-Some in (h.even, h.small)
+
 pub unlock_same-requires-clause-holds : goal.unlock_same-requires-clause-holds
 unlock_same-requires-clause-holds g c =
     let z = (goal.at.unlock_same-requires-clause-holds g c).After-write in
@@ -124,6 +128,12 @@ returns-in_default-write g c =
         e.3 ∙ seen g z,
       );
     }
+
+pub unlock-requires-clause-free : goal.unlock-requires-clause-free
+unlock-requires-clause-free g c =
+    let h = leaf g (goal.at.unlock-requires-clause-free g c).In-Some in
+    let small = h.small in
+    (h.even, omega (arith, small))
 
 pub unlock-requires-clause-frees : goal.unlock-requires-clause-frees
 unlock-requires-clause-frees g c =

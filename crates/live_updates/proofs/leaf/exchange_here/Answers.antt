@@ -2,10 +2,11 @@ use Rattle.std.proofs.Common.{sym, subst, ◌∙◌}
 use Rattle.live_law.specs.Tree.{Answers}
 use Rattle.live_growth.proofs.Ready.{ready_rest}
 use Rattle.live_growth.proofs.StoodOn.{position_rest}
+use Rattle.live_updates.proofs.Seeks.{leaf_open}
 use Rattle.live_updates.proofs.leaf.exchange_here.Goals as goal
 
 pub tidy_from-requires-clause-position : goal.tidy_from-requires-clause-position
-tidy_from-requires-clause-position g c = position_rest c.args.seat.now.view c.update_leaf.new.seat.view c.args.key c.args.leaf.position c.in-Ok-Empty.ensures.told.2 c.requires.open.0
+tidy_from-requires-clause-position g c = position_rest c.args.seat.now.view c.update_leaf.new.seat.view c.args.key c.args.leaf.position c.in-Ok-Empty.ensures.told.2 (leaf_open c.args.seat.now.view c.args.seat.now.book c.args.key c.args.leaf c.args.old c.requires.open).0
 
 pub tidy_from-requires-clause-ready : goal.tidy_from-requires-clause-ready
 tidy_from-requires-clause-ready g c = ready_rest c.args.seat.now.view c.update_leaf.new.seat.view c.args.room.now c.requires.ready c.in-Ok-Empty.ensures.told.2

@@ -1,18 +1,21 @@
 use Rattle.std.proofs.Common.{rules, arith, sym, ap, subst, length, ℕ, Some, None, List, ◌≡◌, ◌+◌, ◌/◌, ◌∙◌}
 use Rattle.live_nodes.specs.Acts as acts
 use Rattle.live_nodes.specs.Nodes.{Content}
-use Rattle.live_nodes.specs.Seats.{SeatView}
+use Rattle.live_nodes.specs.Seats.{SeatView, Agree}
+use Rattle.spec_map.specs.Map.{lookup}
+use Rattle.spec_node.specs.TableNode.{TableNode}
 use Rattle.live_nodes.specs.Rows.{draft_of, nth}
-use Rattle.live_layout.specs.Encodes.{words_of, IsCounted}
+use Rattle.live_layout.specs.Encodes.{words_of, IsCounted, Encodes}
 use Rattle.live_law.specs.Levels.{up, digit, Spot, place_at}
 use Rattle.live_law.specs.Views.{View}
 use Rattle.live_law.specs.Tree.{IsMap, Answers}
-use Rattle.live_reads.specs.Paths.{AreNamed}
-use Rattle.live_growth.specs.Holds.{Alike, HasLocked, HoldsOne}
+use Rattle.live_reads.specs.Paths.{AreNamed, IsOpen}
+use Rattle.live_growth.specs.Holds.{Alike, HasLocked, HasLockedOpen, HoldsOne}
 use Rattle.live_reads.proofs.Views.{first_word}
 use Rattle.share_rule.specs.History.{Entry}
-use Rattle.live_updates.specs.inner.Updates.{Writes}
+use Rattle.live_updates.specs.inner.Updates.{Writes, HasExpected}
 use Rattle.live_updates.proofs.Leaves.{leaf_updates}
+use Rattle.live_updates.proofs.Seeks.{leaf_open, leaf_has}
 use Rattle.live_updates.proofs.Written.{set_leaf, kept_leaf, encodes_few}
 use Rattle.live_growth.proofs.Locks.{taken_by, are_named, holds_one, may_hold, draft_is, wrote_one, may_free, is_freed, alike_then}
 use Rattle.live_updates.proofs.leaf.update_leaf.Given.{Over}
@@ -24,10 +27,17 @@ Seen = SeatView View
 
 -- THE LEAF is locked
 module _ (g : Over) (c : In-Some g) where
-  leaf : HasLocked c.args.seat.now.view c.lock_open.new.seat.view c.args.leaf.position.name c.args.key 1 c.in-Some.free
-  leaf =
+  opened : IsOpen c.args.seat.now.view c.args.seat.now.book c.args.leaf.here.words.now c.args.leaf.here.taken c.args.leaf.position.name c.args.key 1
+  opened = (leaf_open c.args.seat.now.view c.args.seat.now.book c.args.key c.args.leaf c.args.old c.requires.open).1
+
+  locks : (h : HasLocked c.args.seat.now.view c.lock_open.new.seat.view c.args.leaf.position.name c.args.key 1 c.in-Some.free) × Agree h.content opened.opened.saw
+  locks =
       let locked : c.lock_open.result ≡ Some c.in-Some.free = search rules in
-      taken_by c.lock_open.result c.in-Some.free locked (HasLocked c.args.seat.now.view c.lock_open.new.seat.view c.args.leaf.position.name c.args.key 1) c.lock_open.ensures.told.2
+      let open_node = HasLockedOpen c.args.seat.now.view c.lock_open.new.seat.view c.args.seat.now.book c.args.leaf.here.words.now c.args.leaf.here.taken c.args.leaf.position.name c.args.key 1 in
+      taken_by c.lock_open.result c.in-Some.free locked open_node c.lock_open.ensures.told.2 opened
+
+  leaf : HasLocked c.args.seat.now.view c.lock_open.new.seat.view c.args.leaf.position.name c.args.key 1 c.in-Some.free
+  leaf = locks.0
 
   abbrev a : Spot
   a = leaf.names.spot
@@ -37,11 +47,19 @@ module _ (g : Over) (c : In-Some g) where
 
   one : HoldsOne c.lock_open.new.seat.view c.lock_open.new.seat.book c.args.leaf.here.words.now c.in-Some.free a leaf.content leaf.content
   one =
-      let are = subst (λ z. AreNamed z c.args.leaf.position.name c.args.leaf.here.words.now) (sym c.lock_open.ensures.told.0) (are_named c.args.seat.now.view c.args.seat.now.book c.args.leaf.here.words.now c.args.leaf.here.taken c.args.leaf.position.name c.args.key 1 c.requires.open.1) in
+      let are = subst (λ z. AreNamed z c.args.leaf.position.name c.args.leaf.here.words.now) (sym c.lock_open.ensures.told.0) (are_named c.args.seat.now.view c.args.seat.now.book c.args.leaf.here.words.now c.args.leaf.here.taken c.args.leaf.position.name c.args.key 1 opened) in
       holds_one c.args.seat.now.view c.lock_open.new.seat.view c.args.leaf.position.name c.args.key 1 c.in-Some.free leaf c.lock_open.new.seat.book c.args.leaf.here.words.now are c.requires.rests.0 c.requires.rests.1
 
   drafted : draft_of (nth 0 c.lock_open.new.seat.view.holds) ≡ leaf.content
   drafted = draft_is c.lock_open.new.seat.view c.lock_open.new.seat.book c.args.leaf.here.words.now c.in-Some.free a leaf.content leaf.content one
+
+  -- and has what is expected
+  known : (n : TableNode ℕ) → Encodes (draft_of (nth 0 c.lock_open.new.seat.view.holds)) n → n.form ≡ c.form_below-form.result → length n.prefix ≡ 7 → HasExpected (lookup n.children c.byte_at-byte.result) c.args.old
+  unfolding opened leaf
+  known n encodes formed deep =
+      let its_form = c.form_below-form.ensures opened.names.spot.shape.key opened.names.spot.shape.form opened.names.named in
+      let has = leaf_has c.args.seat.now.view c.args.seat.now.book c.args.key c.args.leaf c.args.old c.requires.open leaf.content n locks.1 (subst (λ z. Encodes z n) drafted encodes) (formed ∙ its_form) deep in
+      subst (λ z. HasExpected (lookup n.children z) c.args.old) (sym c.byte_at-byte.ensures) has
 
 -- It may be written.
 module _ (g : Over) (c : After-set g) where
@@ -86,6 +104,9 @@ module _ (g : Over) (c : After-index-words-0 g) where
   at_k : (a g locked_of).shape.key ≡ c.index-words-0.result.key
   at_k = (first_word (place_at (a g locked_of)) c.left_in-left.new.seat.book c.args.leaf.here.words.now counted.are c.index-words-0.result c.index-words-0.result (sym c.index-words-0.is)).0
 
+pub lock_open-requires : goal.lock_open-requires
+lock_open-requires g c = record { «open» = (leaf_open c.args.seat.now.view c.args.seat.now.book c.args.key c.args.leaf c.args.old c.requires.open).1 }
+
 pub set-requires-clause-may : goal.set-requires-clause-may
 set-requires-clause-may g c =
     let k = (goal.at.set-requires-clause-may g c).In-Some in
@@ -96,11 +117,19 @@ set-requires-clause-long g c =
     let k = (goal.at.set-requires-clause-long g c).In-Some in
     ap (λ (z : Content). length z) (drafted g k) ∙ ((leaf g k).long ∙ ap words_of (sym (form g k)))
 
+pub set-requires-clause-known : goal.set-requires-clause-known
+set-requires-clause-known g c = λ n encodes formed deep.
+    let k = (goal.at.set-requires-clause-known g c).In-Some in
+    known g k n encodes formed deep
+
 pub set-requires-clause-few : goal.set-requires-clause-few
 set-requires-clause-few g c =
     let k = (goal.at.set-requires-clause-few g c).In-Some in
     let h = leaf g k in
     subst (λ (z : Content). IsCounted c.form_below-form.result z) (sym (drafted g k)) (encodes_few h.content h.its c.form_below-form.result (h.in_form ∙ sym (form g k)) h.encodes)
+
+pub unlock_same-requires-clause-word : goal.unlock_same-requires-clause-word
+unlock_same-requires-clause-word g c = let h = leaf g (goal.at.unlock_same-requires-clause-word g c).In-Some in (h.even, h.small)
 
 pub unlock_same-requires-clause-holds : goal.unlock_same-requires-clause-holds
 unlock_same-requires-clause-holds g c =
@@ -124,6 +153,12 @@ returns-in-Some-set g c =
         e.3 ∙ (ap (λ (z : View). z.seen) (wrote g s).2 ∙ (leaf g (first g s)).seen),
       );
     }
+
+pub unlock-requires-clause-free : goal.unlock-requires-clause-free
+unlock-requires-clause-free g c =
+    let h = leaf g (goal.at.unlock-requires-clause-free g c).In-Some in
+    let small = h.small in
+    (h.even, omega (arith, small))
 
 pub unlock-requires-clause-frees : goal.unlock-requires-clause-frees
 unlock-requires-clause-frees g c =

@@ -3,8 +3,8 @@ use Rattle.live_reads.specs.Paths.{Keeps}
 use Rattle.live_reads.specs.Positions.{KnowsPosition}
 use Rattle.live_reads.proofs.Finds.{keeps_then}
 use Rattle.live_reads.proofs.Stood.{position_kept}
-use Rattle.live_updates.specs.inner.Lookups.{IsOpenLeaf}
-use Rattle.live_updates.proofs.Seeks.{found_none, found_some, ends_later, sought_later, sought_none}
+use Rattle.live_updates.specs.inner.Lookups.{IsLeafWith, IsOpenWith}
+use Rattle.live_updates.proofs.Seeks.{found_none, found_some, some_by, ends_later, sought_later, sought_none}
 use Rattle.live_updates.proofs.lookup.seek.Given.{Over}
 use Rattle.live_updates.proofs.lookup.seek.Goals as goal
 use Rattle.live_updates.proofs.lookup.seek.Goals.{In_ok-end, After-ends_in}
@@ -65,7 +65,9 @@ returns-in-Some-2 g c =
     let end = c.in_ok-end.end in
     let found = found_some l c.ends_in.result (Some c.in-Some-2.value) v w t.3 (search rules) in
     let position = position_kept v w c.args.key end.position t.2 (knows g a.In_ok-end) in
-    let leaf = subst (λ k. IsOpenLeaf w c.ends_in.new.seat.book k end) (sym c.requires.asks.0) (position, c.in_ok-value.ensures.still) in
+    let still = IsOpenWith w c.ends_in.new.seat.book end.here.words.now end.here.taken end.position.name c.args.key in
+    let with = some_by c.ends_in.result (Some c.in-Some-2.value) (search rules) still c.ends_in.ensures.still in
+    let leaf = subst (λ k. IsLeafWith w c.ends_in.new.seat.book k end (Some c.in-Some-2.value)) (sym c.requires.asks.0) (position, with) in
     record { told = (s.0, s.1, s.2, (ends_later l.caller (l.entry (Some c.in-Some-2.value)) c.args.seat.now.view v w c.descend.ensures.told.3 found, leaf)) }
 
 pub returns-in-None : goal.returns-in-None
