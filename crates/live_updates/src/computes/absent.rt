@@ -1,5 +1,7 @@
 //! A key that is absent gets a value.
-ghost use Rattle.std.specs.Prelude.{◌≡◌, Some, None};
+ghost use Rattle.std.specs.Prelude.{◌≡◌, ◌≤◌, Some, None};
+ghost use Rattle.live_reads.specs.Paths.{Names};
+ghost use Rattle.live_reads.specs.Positions.{KnowsPosition};
 ghost use Rattle.live_growth.specs.Calls.{IsReady};
 ghost use Rattle.live_nodes.specs.Seats.{SeatView};
 ghost use Rattle.live_law.specs.Views.{View};
@@ -8,11 +10,11 @@ ghost use Rattle.live_updates.specs.inner.Updates.{Update, IsUpdate};
 ghost use Rattle.live_updates.specs.inner.Ends.{Tries, Enters};
 
 use crate::leaf::{Missed, Updates, update_here};
-use live_growth::insert::{enlarge, extend, part};
+use live_growth::insert::{enlarge, extend, part, reach};
 use live_growth::link::Room;
 use live_growth::map::{Refusal, TRIES};
 use live_growth::refill::Refills;
-use live_reads::descend::{End, descend};
+use live_reads::descend::{End, Position, descend};
 use live_reads::path::{Nodes, Seat};
 
 /// How a try ends: the key has the value, it has another one already, it is to be tried again, or a node is lacking.
@@ -62,6 +64,34 @@ fn enter_at<U: Updates>(
     }
 }
 
+/// Gives an absent key a value in its new leaf, which is below the node at which the key's path has ended.
+fn enter_new<U: Updates>(
+    nodes: &Nodes,
+    above: Position,
+    name: u64,
+    key: u64,
+    value: u64,
+    room: &mut Room,
+    seat: &mut Seat,
+) -> Tried
+    requires book { seat.old.book ≡ nodes.now }
+    requires asks { (U.update.key ≡ key) × (U.update.caller ≡ seat.old.id) }
+    requires values { (U.update.old ≡ None) × (U.update.new ≡ Some value) }
+    requires legal { IsUpdate U.update }
+    requires ready { IsReady seat.old.view room.old }
+    requires above { KnowsPosition seat.old.view key above }
+    requires inner { 2 ≤ above.height }
+    requires named { Names seat.old.view name key 1 }
+    ensures told { (seat.new.book ≡ seat.old.book) × (seat.new.id ≡ seat.old.id)
+        × IsReady seat.new.view room.new
+        × Tries U.update result seat.old.view seat.new.view }
+{
+    let Some(leaf) = reach(nodes, above, name, key, seat) else {
+        return Tried::Again;
+    };
+    enter_at::<U>(nodes, leaf, key, value, room, seat)
+}
+
 /// Gives an absent key a value, or comes nearer to it by a node.
 fn enter_once<U: Updates>(
     nodes: &Nodes,
@@ -91,7 +121,10 @@ fn enter_once<U: Updates>(
         return tried_with(part(nodes, position, mismatch, key, room, seat));
     }
     if position.height > 1 {
-        return tried_with(extend(nodes, position, key, room, seat));
+        return match extend(nodes, position, key, room, seat) {
+            Ok(name) => enter_new::<U>(nodes, position, name, key, value, room, seat),
+            Err(refusal) => tried_with(refusal == Refusal::OutOfMemory),
+        };
     }
     enter_at::<U>(nodes, end, key, value, room, seat)
 }
