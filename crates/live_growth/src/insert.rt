@@ -274,6 +274,7 @@ pub fn part(
 
 /// Gives a key a value in its new leaf, which is below the node at which the key's path has ended. `Busy` and `OutOfMemory` as by
 /// `insert_at`.
+#[inline(never)]
 fn insert_new(
     nodes: &Nodes,
     above: Position,

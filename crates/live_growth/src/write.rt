@@ -50,6 +50,7 @@ pub enum Hindrance {
 }
 
 /// Gives a key of an open leaf a value. Another writer may have come in between, or the leaf is full.
+#[inline(always)]
 pub fn insert_here<A: Asks>(
     here: Opened<'_>,
     name: u64,

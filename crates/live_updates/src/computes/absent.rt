@@ -65,6 +65,7 @@ fn enter_at<U: Updates>(
 }
 
 /// Gives an absent key a value in its new leaf, which is below the node at which the key's path has ended.
+#[inline(never)]
 fn enter_new<U: Updates>(
     nodes: &Nodes,
     above: Position,
