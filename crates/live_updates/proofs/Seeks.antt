@@ -1,5 +1,5 @@
 -- What a seat knows after a node was read in a look-up.
-use Rattle.std.proofs.Common.{◌≡◌, ◌≢◌, ◌↔◌, ℕ, ◌*◌, ◌≤◌, zero, suc, Bool, true, false, IsTrue, List, ◌∷◌, ◌++◌, length, Option, Some, None, IfSome, refl, sym, ap, ◌∙◌, subst, arith}
+use Rattle.std.proofs.Common.{◌≡◌, ◌≢◌, ◌↔◌, ℕ, ◌*◌, ◌≤◌, zero, suc, Bool, true, false, IsTrue, List, ◌∷◌, ◌++◌, length, Option, Some, None, refl, sym, ap, ◌∙◌, subst, arith}
 use mathlib.Core.Logic.{dite}
 use native.Mathlib.Decide.{ℕ_discrete}
 use Rattle.spec_node.specs.TableNode.{TableNode, Child}
@@ -78,9 +78,6 @@ sought_none q b o v w e same = subst (λ (z : Option Site). Sought q b z v w) (s
 
 pub found_some : (q : Lookup) (o : Option (Option ℕ)) (x : Option ℕ) (v w : Seen) → Found q o v w → o ≡ Some x → EndsBy q.caller (q.entry x) v w
 found_some q o x v w f e = subst (λ (z : Option (Option ℕ)). Found q z v w) e f
-
-pub some_by : {A : Type 0} (o : Option A) (x : A) → o ≡ Some x → (P : A → Type 0) → IfSome o P → P x
-some_by {A} o x e P h = subst (λ (z : Option A). IfSome z P) e h
 
 pub found_none : (q : Lookup) (o : Option (Option ℕ)) (v w : Seen) → Found q o v w → o ≡ None → w.client.seen ≡ v.client.seen
 found_none q o v w f e = subst (λ (z : Option (Option ℕ)). Found q z v w) e f

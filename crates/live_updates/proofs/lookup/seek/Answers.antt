@@ -4,7 +4,8 @@ use Rattle.live_reads.specs.Positions.{KnowsPosition}
 use Rattle.live_reads.proofs.Finds.{keeps_then}
 use Rattle.live_reads.proofs.Stood.{position_kept}
 use Rattle.live_updates.specs.inner.Lookups.{IsLeafWith, IsOpenWith}
-use Rattle.live_updates.proofs.Seeks.{found_none, found_some, some_by, ends_later, sought_later, sought_none}
+use Rattle.live_growth.proofs.Ready.{some_by}
+use Rattle.live_updates.proofs.Seeks.{found_none, found_some, ends_later, sought_later, sought_none}
 use Rattle.live_updates.proofs.lookup.seek.Given.{Over}
 use Rattle.live_updates.proofs.lookup.seek.Goals as goal
 use Rattle.live_updates.proofs.lookup.seek.Goals.{In_ok-end, After-ends_in}
