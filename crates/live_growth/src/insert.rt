@@ -205,8 +205,8 @@ fn refusal_of(lacks: bool) -> Refusal {
     }
 }
 
-/// Gives a key of an open leaf a value, or makes room there for it: `Busy`. So it is too where a writer came in between. `OutOfMemory`
-/// where a node is lacking.
+/// Gives a key of an open leaf a value, or makes room there for it: `Busy`. So it is too where a writer came in between.
+/// `OutOfMemory` where a node is lacking.
 #[inline(always)]
 fn insert_at(
     nodes: &Nodes,

@@ -185,8 +185,8 @@ fn left_in<S, D: WriteWords<S>>(draft: &D, form: NodeType, new: Option<u64>, sea
     fill_of(draft, form, seat)
 }
 
-/// Gives a key of an open leaf what it is to have, if it has what is expected. Otherwise nothing is written. How many keys the leaf has
-/// then, where one was taken out.
+/// Gives a key of an open leaf what it is to have, if it has what is expected. Otherwise nothing is written. How many keys the leaf
+/// has then, where one was taken out.
 #[inline(always)]
 fn update_leaf<U: Updates>(
     leaf: End<'_>,
@@ -244,8 +244,8 @@ pub fn update_here<U: Updates>(
     }
 }
 
-/// Gives a key of an open leaf what it is to have, if it has what is expected. Otherwise nothing is written. A leaf without keys is taken
-/// out of the map, and one that is left with few goes into the next smaller form.
+/// Gives a key of an open leaf what it is to have, if it has what is expected. Otherwise nothing is written. A leaf without keys is
+/// taken out of the map, and one that is left with few goes into the next smaller form.
 pub fn exchange_here<U: Updates>(
     nodes: &Nodes,
     leaf: End<'_>,
