@@ -203,7 +203,14 @@ fn shrink_end(nodes: &Nodes, name: u64, spare: u64, key: u64, room: &mut Room, s
         × IsReady seat.new.view room.new
         × (seat.new.view.client.seen ≡ seat.old.view.client.seen) }
 {
-    let Some(End { position, mismatch }) = descend(nodes, key, seat) else {
+    let Some(
+        End {
+            position,
+            mismatch,
+            ..
+        },
+    ) = descend(nodes, key, seat)
+    else {
         return;
     };
     if position.name != name || mismatch.is_some() || position.height >= 8 {

@@ -1,12 +1,13 @@
 //! The path of a key is tidied, which was removed.
 ghost use Rattle.std.specs.Prelude.{◌≡◌, [], IfOk};
 ghost use Rattle.live_reads.specs.Paths.{KnowsRootWord, Sights, Keeps};
+ghost use Rattle.live_reads.specs.Positions.{KnowsPosition};
 ghost use Rattle.live_growth.specs.Calls.{IsReady};
 
 use crate::detach::{Stays, Taken, detach};
 use crate::shrink_node::{Fill, shrink_on_path};
 use live_growth::link::Room;
-use live_reads::descend::{End, descend};
+use live_reads::descend::{End, Position, descend};
 use live_reads::path::{Nodes, Seat};
 
 /// Takes the node out at which a key's path ends, if it has no children and isn't the root.
@@ -19,13 +20,38 @@ pub fn detach_one(nodes: &Nodes, key: u64, seat: &mut Seat) -> Result<Taken, Sta
         × (seat.new.view.client.seen ≡ seat.old.view.client.seen) }
     ensures named { IfOk result (λ taken. Sights seat.new.view taken.name) }
 {
-    let Some(End { position, mismatch }) = descend(nodes, key, seat) else {
+    let Some(
+        End {
+            position,
+            mismatch,
+            ..
+        },
+    ) = descend(nodes, key, seat)
+    else {
         return Err(Stays::Busy);
     };
     if mismatch.is_some() || position.height >= 8 {
         return Err(Stays::InUse);
     }
     detach(nodes, position, key, seat)
+}
+
+/// Keeps a node that was taken out, to be used again. The one above it shrinks, if it is left with few children. Whether it is
+/// left with none.
+fn keep_taken(nodes: &Nodes, taken: Taken, key: u64, room: &mut Room, seat: &mut Seat) -> bool
+    requires book { seat.old.book ≡ nodes.now }
+    requires ready { IsReady seat.old.view room.old }
+    requires sighted { Sights seat.old.view taken.name }
+    ensures told { (seat.new.book ≡ seat.old.book) × (seat.new.id ≡ seat.old.id)
+        × IsReady seat.new.view room.new
+        × (seat.new.view.client.seen ≡ seat.old.view.client.seen) }
+{
+    let _ = room.spare.keep(taken.name);
+    if taken.left == Fill::Empty {
+        return true;
+    }
+    shrink_on_path(nodes, taken.above, taken.left, key, room, seat);
+    false
 }
 
 /// Takes the nodes out that have no children on the path of a key. The one above them shrinks, if it is left with few. One of
@@ -51,10 +77,41 @@ pub fn tidy(nodes: &Nodes, key: u64, room: &mut Room, seat: &mut Seat)
                 return;
             }
         };
-        let _ = room.spare.keep(taken.name);
-        if taken.left != Fill::Empty {
-            shrink_on_path(nodes, taken.above, taken.left, key, room, seat);
+        if !keep_taken(nodes, taken, key, room, seat) {
             return;
         }
+    }
+}
+
+/// Takes the node at a position out, as `tidy` does with the first one. Whether more of the path may be tidied.
+fn take_out(nodes: &Nodes, position: Position, key: u64, room: &mut Room, seat: &mut Seat) -> bool
+    requires book { seat.old.book ≡ nodes.now }
+    requires ready { IsReady seat.old.view room.old }
+    requires position { KnowsPosition seat.old.view key position }
+    ensures told { (seat.new.book ≡ seat.old.book) × (seat.new.id ≡ seat.old.id)
+        × IsReady seat.new.view room.new
+        × (seat.new.view.client.seen ≡ seat.old.view.client.seen) }
+{
+    if position.height >= 8 || room.spare.more != 0 {
+        return true;
+    }
+    match detach(nodes, position, key, seat) {
+        Ok(taken) => keep_taken(nodes, taken, key, room, seat),
+        Err(_) => true,
+    }
+}
+
+/// Tidies the path of a key, as `tidy` does, from the node at which it ends. That one isn't looked for, unless a writer came in
+/// between.
+pub fn tidy_from(nodes: &Nodes, position: Position, key: u64, room: &mut Room, seat: &mut Seat)
+    requires book { seat.old.book ≡ nodes.now }
+    requires ready { IsReady seat.old.view room.old }
+    requires position { KnowsPosition seat.old.view key position }
+    ensures told { (seat.new.book ≡ seat.old.book) × (seat.new.id ≡ seat.old.id)
+        × IsReady seat.new.view room.new
+        × (seat.new.view.client.seen ≡ seat.old.view.client.seen) }
+{
+    if take_out(nodes, position, key, room, seat) {
+        tidy(nodes, key, room, seat);
     }
 }

@@ -1,5 +1,5 @@
 -- A node is used again: it is locked, written, and leads on from a node above.
-use Rattle.std.proofs.Common.{◌≡◌, ◌≢◌, ℕ, ◌+◌, ◌-◌, ◌*◌, ◌%◌, ◌<◌, ◌≤◌, ◌^◌, Bool, cond, nat_eq, List, [], ◌∷◌, ◌++◌, length, take, length-take, slice_index, Some, refl, sym, ap, ◌∙◌, subst, inr, arith, eq-eqb, ne_eqb}
+use Rattle.std.proofs.Common.{◌≡◌, ◌≢◌, ℕ, ◌+◌, ◌-◌, ◌*◌, ◌%◌, ◌<◌, ◌≤◌, ◌^◌, Bool, cond, nat_eq, List, [], ◌∷◌, ◌++◌, length, take, length-take, slice_index, Some, refl, sym, ap, ◌∙◌, subst, inl, inr, arith, eq-eqb, ne_eqb}
 use Rattle.std.proofs.lemmas.List.{get_or-take}
 use Rattle.node_base.specs.declared.base_node.NodeType.{NodeType}
 use Rattle.spec_node.specs.declared.child.Child.TheVariants.{Node as Below}
@@ -13,12 +13,12 @@ use Rattle.live_nodes.specs.Plays.{hold_of, Locks}
 use Rattle.live_nodes.specs.Calls.{MayLock, MayFree}
 use Rattle.live_nodes.specs.Rows.{AreOf, nth, draft_of, undrafted, without_draft}
 use Rattle.live_layout.specs.Encodes.{words_of, Encodes, empty_node, with_child}
-use Rattle.live_law.specs.Levels.{digit, Spot, spot, name_of, place_at}
+use Rattle.live_law.specs.Levels.{up, digit, Spot, spot, name_of, place_at}
 use Rattle.live_law.specs.Views.{View, view_of, Own, locked, detached, rest_of, Ask}
 use Rattle.live_law.specs.Tree.{IsMap, IsApart, IsReclaimed, LearnsReclaimed, again, leads_again, left_again}
 use Rattle.live_law.proofs.Locks.{node_reclaims}
 use Rattle.live_law.proofs.Joins.{IsEmptyNode, IsSplit}
-use Rattle.live_reads.specs.Paths.{Sights, AreNamed, Keeps}
+use Rattle.live_reads.specs.Paths.{Names, Sights, AreNamed, Keeps}
 use Rattle.live_growth.specs.Holds.{Alike, HoldsOne, HasReclaimed}
 use Rattle.live_growth.specs.Rooms.{HasGrown}
 use Rattle.live_reads.proofs.Views.{reading, same_place, same_named}
@@ -212,6 +212,23 @@ again_grown_on v n z x e e2 q cy r p cp hs places met seen own z_is e_is x_is e2
       places = λ a h. subst (λ (ps : List Place). IsIn a ps) (sym x_places) (places a h);
       met = λ a h. subst (λ (l : List Spot). IsIn a l) (sym x_met) (inr (met a h));
       seen = ap (λ (t : View). t.seen) x_client ∙ (ap (λ (t : View). t.seen) z_client ∙ seen);
+    }
+
+-- and that it has the name of that one then
+pub again_names : (n z x : Seen) (e e2 : View) (q : Ask) (cy : Content) (r p : Spot) (cp : Content) (hs : List Hold) (key height name : ℕ) → IsIn (place_at r) n.places → name ≡ name_of r.shape → q.key ≡ key → q.height ≡ height → n.client.own ≡ detached r ∷ locked p cp ∷ []
+    → z ≡ seat_view e n.places n.reads hs n.room → e ≡ view_of n.client.seen (leads_again q n.client.own ++ n.client.met) (left_again q cy n.client.own)
+    → x ≡ seat_view e2 z.places z.reads [] z.room → e2 ≡ view_of z.client.seen z.client.met (rest_of z.client.own) → Names x name key height
+again_names n z x e e2 q cy r p cp hs key height name placed named key_is height_is own z_is e_is x_is e2_is =
+    let z_client = ap (λ (t : Seen). t.client) z_is ∙ e_is in
+    let x_client = ap (λ (t : Seen). t.client) x_is ∙ e2_is in
+    let x_places : x.places ≡ n.places = ap (λ (t : Seen). t.places) x_is ∙ ap (λ (t : Seen). t.places) z_is in
+    let x_met : x.client.met ≡ again q r ∷ n.client.met = ap (λ (t : View). t.met) x_client ∙ (ap (λ (t : View). t.met) z_client ∙ ap (λ (os : List Own). leads_again q os ++ n.client.met) own) in record {
+      spot = again q r;
+      met = subst (λ (l : List Spot). IsIn (again q r) l) (sym x_met) (inl refl);
+      placed = subst (λ (ps : List Place). IsIn (place_at r) ps) (sym x_places) placed;
+      named = named;
+      high = height_is;
+      covers = ap (up q.height) (sym key_is);
     }
 
 pub again_grown : (v n z x : Seen) (e e2 : View) (q : Ask) (cy : Content) (r p : Spot) (cp : Content) (hs : List Hold) → n.places ≡ v.places → n.client.met ≡ v.client.met → n.client.seen ≡ v.client.seen → n.client.own ≡ detached r ∷ locked p cp ∷ []

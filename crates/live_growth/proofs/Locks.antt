@@ -2,26 +2,31 @@
 use Rattle.std.proofs.Common.{◌≡◌, ◌≢◌, ℕ, ◌+◌, ◌*◌, ◌/◌, ◌%◌, ◌<◌, ◌^◌, Bool, cond, nat_eq, List, [], ◌∷◌, length, Option, Some, IfSome, refl, sym, ap, ◌∙◌, subst, arith, eq-eqb}
 use Rattle.word_book.specs.Book.{Book, Name, writes, compares, none_joined, Joined}
 use Rattle.live_nodes.specs.Nodes.{Content}
-use Rattle.live_nodes.specs.Seats.{Place, Hold, hold, SeatView, seat_view, IsIn, Agree, with_draft, without}
+use Rattle.live_nodes.specs.Seats.{Place, Read, Hold, hold, SeatView, seat_view, IsIn, Agree, with_draft, without}
 use Rattle.live_nodes.specs.Acts as acts
 use Rattle.live_nodes.specs.Plays as plays
 use Rattle.live_nodes.specs.Plays.{hold_of, locked, Locks}
 use Rattle.live_nodes.specs.Calls.{MayLock, MayFree}
 use Rattle.live_nodes.specs.Rows.{nth, draft_of, undrafted, MayHold, without_draft}
+use Rattle.node_base.specs.Form.{form_place}
+use Rattle.node_base.specs.declared.base_node.NodeType.{NodeType}
+use Rattle.word_segments.specs.Segments.{AreWords}
 use Rattle.live_layout.specs.Encodes.{words_of}
+use Rattle.live_layout.proofs.StandLaws.{few_forms}
 use Rattle.live_layout.specs.Head.{IsHead}
 use Rattle.live_layout.specs.Words as cells
 use Rattle.live_law.specs.Levels.{Shape, Spot, spot, place_at}
 use Rattle.live_law.specs.Views as views
 use Rattle.live_law.specs.Views.{View, Own}
-use Rattle.live_law.specs.Tree.{IsMap, LearnsLocked, IsHeld}
+use Rattle.live_law.specs.Tree.{IsMap, LearnsLocked, IsHeld, IsOf}
 use Rattle.live_law.proofs.Locks.{node_locks}
-use Rattle.live_reads.specs.Paths.{Names, AreNamed}
+use Rattle.live_reads.specs.Paths.{Names, AreNamed, IsOpen}
 use Rattle.live_growth.specs.Holds.{Alike, HasLocked, HoldsOne}
 use Rattle.live_reads.specs.Sees.{Sees}
 use Rattle.live_reads.specs.declared.prefix_match.PrefixMatch.TheVariants as prefix_matches
 use Rattle.live_reads.proofs.Views.{reading}
 use Rattle.live_reads.proofs.Sights.{sure_by}
+use Rattle.live_growth.proofs.FreeNodes.{one_form}
 
 abbrev Seen : Type 0
 Seen = SeatView View
@@ -58,12 +63,13 @@ module _ (v : Seen) (name key height : ℕ) (n : Names v name key height) (v₁ 
     pub not_locked : m ≢ t → Alike v v₂ × (v₂.client ≡ v.client) × (v₂.holds ≡ v.holds)
     not_locked ne = alike_read v v₂ n.spot.number t saw (tried.lost ne)
 
-    pub is_locked : m ≡ t → t % 4 ≡ 0 → t < 2 ^ 62 → key < 2 ^ 64 → (head : ℕ) → ((c : Content) → Agree c saw → cells.at c 0 ≡ head) → ((form : ℕ) (q : List ℕ) → IsHead head form q → Sees q key (prefix_matches.Covers height)) → HasLocked v v₂ name key height t
-    is_locked hit even small fits head at_head sees =
+    -- where what was read says what the node is
+    pub is_locked_as : m ≡ t → t % 4 ≡ 0 → t < 2 ^ 62 → ((s : Shape) → IsOf n.spot s saw → s ≡ n.spot.shape) → (h : HasLocked v v₂ name key height t) × Agree h.content saw
+    is_locked_as hit even small sure =
         let w = tried.won hit in
         let h : IsHeld v.client n.spot w.0 w.1 = w.4 n.spot n.met refl in
         let agrees : Agree w.0 saw = (w.5 (t / 4) (omega (arith, even))).0 refl refl in
-        let shape_is : h.shape ≡ n.spot.shape = sure_by key fits saw head at_head height sees n.spot n.high n.covers h.shape record {
+        let shape_is : h.shape ≡ n.spot.shape = sure h.shape record {
           now = h.now;
           content = w.0;
           its = h.its;
@@ -72,26 +78,91 @@ module _ (v : Seen) (name key height : ℕ) (n : Names v name key height) (v₁ 
           in_form = h.in_form;
           deep = h.deep;
           prefixed = h.prefixed;
-        } in record {
-          names = n;
-          content = w.0;
-          own = ap (λ (z : Seen). z.client.own) w.3 ∙ (ap (λ (z : View). z.own) h.is ∙ ap (λ (z : Shape). views.locked (spot n.spot.number z) w.0 ∷ v.client.own) shape_is);
-          holds = ap (λ (z : Seen). z.holds) w.3;
-          alike = record {
-            places = ap (λ (z : Seen). z.places) w.3;
-            met = ap (λ (z : Seen). z.client.met) w.3 ∙ ap (λ (z : View). z.met) h.is;
-            room = ap (λ (z : Seen). z.room) w.3;
-          };
-          seen = ap (λ (z : Seen). z.client.seen) w.3 ∙ ap (λ (z : View). z.seen) h.is;
-          its = h.its;
-          encodes = h.encodes;
-          in_form = h.in_form;
-          deep = ap (λ (z : ℕ). length h.its.prefix + z) (sym n.high ∙ ap (λ (z : Shape). z.height) (sym shape_is)) ∙ h.deep;
-          long = w.2;
-          even = even;
-          small = small;
-          apart = h.apart;
-        }
+        } in (
+          record {
+            names = n;
+            content = w.0;
+            own = ap (λ (z : Seen). z.client.own) w.3 ∙ (ap (λ (z : View). z.own) h.is ∙ ap (λ (z : Shape). views.locked (spot n.spot.number z) w.0 ∷ v.client.own) shape_is);
+            holds = ap (λ (z : Seen). z.holds) w.3;
+            alike = record {
+              places = ap (λ (z : Seen). z.places) w.3;
+              met = ap (λ (z : Seen). z.client.met) w.3 ∙ ap (λ (z : View). z.met) h.is;
+              room = ap (λ (z : Seen). z.room) w.3;
+            };
+            seen = ap (λ (z : Seen). z.client.seen) w.3 ∙ ap (λ (z : View). z.seen) h.is;
+            its = h.its;
+            encodes = h.encodes;
+            in_form = h.in_form;
+            deep = ap (λ (z : ℕ). length h.its.prefix + z) (sym n.high ∙ ap (λ (z : Shape). z.height) (sym shape_is)) ∙ h.deep;
+            long = w.2;
+            even = even;
+            small = small;
+            apart = h.apart;
+          },
+          agrees,
+        )
+
+    -- as its head does
+    pub is_locked : m ≡ t → t % 4 ≡ 0 → t < 2 ^ 62 → key < 2 ^ 64 → (head : ℕ) → ((c : Content) → Agree c saw → cells.at c 0 ≡ head) → ((form : ℕ) (q : List ℕ) → IsHead head form q → Sees q key (prefix_matches.Covers height)) → HasLocked v v₂ name key height t
+    is_locked hit even small fits head at_head sees = (is_locked_as hit even small (sure_by key fits saw head at_head height sees n.spot n.high n.covers)).0
+
+-- A NODE THAT IS OPEN is locked by the word that was taken of it.
+module _ (v : Seen) (b : Book) (words : List Name) (t name key height : ℕ) (o : IsOpen v b words t name key height) where
+  abbrev a : Spot
+  a = o.names.spot
+
+  abbrev before_it : Seen
+  before_it = seat_view v.client v.places o.opened.before v.holds v.room
+
+  abbrev names_before : Names before_it name key height
+  names_before = record { spot = a; met = o.names.met; placed = o.names.placed; named = o.names.named; high = o.names.high; covers = o.names.covers }
+
+  -- its words are those of its name
+  pub are_named : AreNamed b name words
+  are_named c named =
+      let e : 256 * a.shape.key + form_place a.shape.form ≡ 256 * c.shape.key + form_place c.shape.form = sym o.names.named ∙ named in
+      let few = few_forms a.shape.form in
+      let few' = few_forms c.shape.form in
+      let key : a.shape.key ≡ c.shape.key = omega (arith, e, few, few') in
+      let form : a.shape.form ≡ c.shape.form = one_form a.shape.form c.shape.form (omega (arith, e, few, few')) in
+      subst (λ (z : ℕ × NodeType). (length words ≡ words_of z.1 + 1) × AreWords z.0 b words) (λ i. (key i, form i)) o.opened.are
+
+  was_read : v ≡ reading before_it a.number t o.opened.saw
+  was_read = ap (λ (rs : List Read). seat_view v.client v.places rs v.holds v.room) o.opened.reads
+
+  module _ (k : ℕ) (at_k : o.names.spot.shape.key ≡ k) where
+    pub may_lock_open : (id m : ℕ) → t ≡ 4 * m → MayLock v k IsMap id LearnsLocked t (t + 2)
+    may_lock_open id m even = may_lock before_it name key height names_before v t o.opened.saw was_read k at_k id m even
+
+    module _ (v₂ : Seen) (m : ℕ) (j : Joined) (told : Locks LearnsLocked (compares k t (t + 2)) v m j v₂) where
+      pub not_locked_open : m ≢ t → Alike v v₂ × (v₂.client ≡ v.client) × (v₂.holds ≡ v.holds)
+      not_locked_open ne =
+          let s = not_locked before_it name key height names_before v t o.opened.saw was_read k at_k v₂ m j told ne in
+          (record { places = s.0.places; met = s.0.met; room = s.0.room }, s.1, s.2)
+
+      pub is_locked_open : m ≡ t → t < 2 ^ 62 → (h : HasLocked v v₂ name key height t) × Agree h.content o.opened.saw
+      unfolding is_locked_as
+      is_locked_open hit small =
+          let l = is_locked_as before_it name key height names_before v t o.opened.saw was_read k at_k v₂ m j told hit o.free small o.sure in
+          let h = l.0 in (
+            record {
+              names = o.names;
+              content = h.content;
+              own = h.own;
+              holds = h.holds;
+              alike = record { places = h.alike.places; met = h.alike.met; room = h.alike.room };
+              seen = h.seen;
+              its = h.its;
+              encodes = h.encodes;
+              in_form = h.in_form;
+              deep = h.deep;
+              long = h.long;
+              even = h.even;
+              small = h.small;
+              apart = h.apart;
+            },
+            l.1,
+          )
 
 -- A node that is held alone
 module _ (v : Seen) (b : Book) (words : List Name) (free : ℕ) (a : Spot) (c d : Content) (h : HoldsOne v b words free a c d) where

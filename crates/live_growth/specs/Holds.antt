@@ -6,13 +6,13 @@ use Rattle.spec_node.specs.declared.child.Child.TheVariants.{Payload, Node}
 use Rattle.spec_map.specs.Map.{lookup}
 use Rattle.word_book.specs.Book.{Book, Name}
 use Rattle.live_nodes.specs.Nodes.{Content}
-use Rattle.live_nodes.specs.Seats.{place, Hold, hold, SeatView, IsIn, Each}
+use Rattle.live_nodes.specs.Seats.{place, Hold, hold, SeatView, IsIn, Each, Agree}
 use Rattle.live_nodes.specs.Rows.{AreOf}
 use Rattle.live_layout.specs.Encodes.{words_of, Encodes, IsBelow, IsWord, with_child}
 use Rattle.live_law.specs.Levels.{Spot, name_of, place_at}
 use Rattle.live_law.specs.Views.{View, view_of, locked, detached, root_word, Ask, inserted}
 use Rattle.live_law.specs.Tree.{HasValue, IsApart, Answers}
-use Rattle.live_reads.specs.Paths.{Names}
+use Rattle.live_reads.specs.Paths.{Names, IsOpen}
 
 -- The seat knows the same, but for what it has to itself.
 pub record Alike (v w : SeatView View) : Type 0 where
@@ -36,6 +36,11 @@ pub record HasLocked (v w : SeatView View) (name key height free : ℕ) : Type 0
   pub even : free % 4 ≡ 0
   pub small : free < 2 ^ 62
   pub apart : Each (IsApart names.spot.number) v.client.own
+
+-- An open node was locked by the word that was taken of it. What was read of it is its content.
+abbrev pub HasLockedOpen : SeatView View → SeatView View → Book → List Name → ℕ → ℕ → ℕ → ℕ → ℕ → Type 0
+HasLockedOpen v w b words taken name key height free =
+    (o : IsOpen v b words taken name key height) → (h : HasLocked v w name key height free) × Agree h.content o.opened.saw
 
 -- An obsolete node of that name was locked again. Its word is locked by the version of this one.
 pub record HasReclaimed (v w : SeatView View) (name free : ℕ) : Type 0 where

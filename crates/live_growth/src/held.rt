@@ -8,14 +8,14 @@ ghost use Rattle.live_nodes.specs.Calls.{MayFree};
 ghost use Rattle.live_law.specs.Levels.{Spot};
 ghost use Rattle.live_law.specs.Views.{rest_of};
 ghost use Rattle.live_law.specs.Tree.{IsMap, LinksAgain};
-ghost use Rattle.live_reads.specs.Paths.{Names, Sights, AreNamed};
-ghost use Rattle.live_growth.specs.Holds.{Alike, HasLocked, HasReclaimed, HoldsLast, HoldsOne, HasRest};
+ghost use Rattle.live_reads.specs.Paths.{Names, Sights, AreNamed, IsOpen};
+ghost use Rattle.live_growth.specs.Holds.{Alike, HasLocked, HasLockedOpen, HasReclaimed, HoldsLast, HoldsOne, HasRest};
 
 use live_law::law::{Again, Asks, Fills, Locked, MapLaw, MapView, Reclaimed, Same};
 use live_layout::words::ReadWords;
 use live_nodes::node;
 use live_nodes::rows::SharedWords;
-use live_reads::path::{Cell, Seat};
+use live_reads::path::{Cell, Opened, Seat};
 use live_reads::prefix_match::{PrefixMatch, compare};
 
 /// Locks the node that a number names, if it has that height and keys that begin like this one: the word by which it was free.
@@ -46,6 +46,35 @@ pub fn lock_node(words: &[Cell], name: u64, height: usize, key: u64, seat: &mut 
         return None;
     }
     Some(free)
+}
+
+/// Locks an open node by the version word that was taken, and returns that word. What was read of the node since is its content
+/// then, so its head isn't read again. `None` where a writer came in between.
+#[inline(always)]
+pub fn lock_open(
+    here: Opened<'_>,
+    name: u64,
+    height: usize,
+    key: u64,
+    seat: &mut Seat,
+) -> Option<u64>
+    requires open { IsOpen seat.old.view seat.old.book here.words.now here.taken name key height }
+    ensures told { (seat.new.book ≡ seat.old.book) × (seat.new.id ≡ seat.old.id)
+        × (let at = here.entry in IfSome result (HasLockedOpen seat.old.view seat.new.view
+        seat.old.book at.words.now at.taken name key height))
+        × IfNone result (Alike seat.old.view seat.new.view
+        × (seat.new.view.client ≡ seat.old.view.client)
+        × (seat.new.view.holds ≡ seat.old.view.holds)) }
+{
+    let (_, _, _) = (name, height, key);
+    let Opened { words, taken } = here;
+    if taken >= 1 << 62 {
+        return None;
+    }
+    if !node::lock::<MapView, MapLaw, Locked>(&words[0], taken, seat) {
+        return None;
+    }
+    Some(taken)
 }
 
 /// Locks an obsolete node again: the word that `unlock` takes. `None` where it isn't obsolete.

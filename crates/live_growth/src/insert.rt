@@ -1,6 +1,7 @@
 //! An insertion.
-ghost use Rattle.std.specs.Prelude.{◌≡◌, ◌<◌, ◌≤◌, Some};
+ghost use Rattle.std.specs.Prelude.{◌≡◌, ◌<◌, ◌≤◌, Some, IfSome, IfOk};
 ghost use Rattle.live_law.specs.Views.{ask};
+ghost use Rattle.live_reads.specs.Paths.{Names, IsOpen, Keeps};
 ghost use Rattle.live_reads.specs.Positions.{KnowsPosition, HasMismatch};
 ghost use Rattle.live_growth.specs.Rooms.{HasGrown};
 ghost use Rattle.live_growth.specs.Calls.{IsReady, Inserts};
@@ -15,7 +16,7 @@ use crate::write::{Hindrance, insert_here};
 use live_layout::form::{form_below, next_of};
 use live_reads::descend::{End, Position, descend};
 use live_reads::path::{Nodes, Seat};
-use live_reads::prefix_match::Mismatch;
+use live_reads::prefix_match::{Mismatch, enter};
 use std::alloc::{AllocError, Global};
 use std::marker::Brand;
 
@@ -100,20 +101,22 @@ pub fn enlarge(
     false
 }
 
-/// Makes an empty leaf for a key below a node. A node that may be used again is taken, where there is one, or one is made.
+/// Makes an empty leaf for a key below a node. A node that may be used again is taken, where there is one, or one is made. The
+/// leaf's name.
 fn lead_on(
     nodes: &Nodes,
     position: Position,
     key: u64,
     room: &mut Room,
     seat: &mut Seat,
-) -> Result<(), Hindrance>
+) -> Result<u64, Hindrance>
     requires book { seat.old.book ≡ nodes.now }
     requires ready { IsReady seat.old.view room.old }
     requires position { KnowsPosition seat.old.view key position }
     requires inner { 2 ≤ position.height }
     ensures told { (seat.new.book ≡ seat.old.book) × (seat.new.id ≡ seat.old.id)
         × IsReady seat.new.view room.new × HasGrown seat.old.view seat.new.view }
+    ensures leaf { IfOk result (λ leaf. Names seat.new.view leaf key 1) }
 {
     let spare = spare_or_made(nodes, room.spare_for_new(), NEW, room, seat);
     if spare == 0 {
@@ -127,11 +130,19 @@ fn lead_on(
         spare,
         &mut room.spare,
         seat,
-    )
+    )?;
+    Ok(spare)
 }
 
-/// Brings a key's path nearer to its leaf: by a new leaf, or by room for one. Whether a node is lacking for that.
-pub fn extend(nodes: &Nodes, position: Position, key: u64, room: &mut Room, seat: &mut Seat) -> bool
+/// Makes a new leaf for a key: its name. `Busy` where there is only room for one then, or a writer came in between. `OutOfMemory`
+/// where a node is lacking.
+pub fn extend(
+    nodes: &Nodes,
+    position: Position,
+    key: u64,
+    room: &mut Room,
+    seat: &mut Seat,
+) -> Result<u64, Refusal>
     requires book { seat.old.book ≡ nodes.now }
     requires ready { IsReady seat.old.view room.old }
     requires position { KnowsPosition seat.old.view key position }
@@ -139,15 +150,50 @@ pub fn extend(nodes: &Nodes, position: Position, key: u64, room: &mut Room, seat
     ensures told { (seat.new.book ≡ seat.old.book) × (seat.new.id ≡ seat.old.id)
         × IsReady seat.new.view room.new
         × (seat.new.view.client.seen ≡ seat.old.view.client.seen) }
+    ensures leaf { IfOk result (λ leaf. Names seat.new.view leaf key 1
+        × KnowsPosition seat.new.view key position) }
 {
     if room.lacks(room.spare_for_new(), NEW) {
-        return true;
+        return Err(Refusal::OutOfMemory);
     }
     match lead_on(nodes, position, key, room, seat) {
-        Ok(()) => false,
-        Err(Hindrance::Full) => enlarge(nodes, position, key, room, seat),
-        Err(Hindrance::Busy) => false,
+        Ok(leaf) => Ok(leaf),
+        Err(Hindrance::Full) => Err(refusal_of(enlarge(nodes, position, key, room, seat))),
+        Err(Hindrance::Busy) => Err(Refusal::Busy),
     }
+}
+
+/// Opens a new leaf of a key below a node, at which the key's path has ended. `None` where a writer came in between.
+pub fn reach<'a>(
+    nodes: &'a Nodes,
+    above: Position,
+    name: u64,
+    key: u64,
+    seat: &mut Seat,
+) -> Option<End<'a>>
+    requires book { seat.old.book ≡ nodes.now }
+    requires above { KnowsPosition seat.old.view key above }
+    requires inner { 2 ≤ above.height }
+    requires named { Names seat.old.view name key 1 }
+    ensures told { (seat.new.book ≡ seat.old.book) × (seat.new.id ≡ seat.old.id)
+        × Keeps seat.old.view seat.new.view
+        × (seat.new.view.client.seen ≡ seat.old.view.client.seen) }
+    ensures leaf { IfSome result (λ end. let here = end.here
+        in KnowsPosition seat.new.view key end.position
+        × IsOpen seat.new.view seat.new.book here.words.now here.taken end.position.name key 1) }
+{
+    let here = enter(nodes, name, 1, key, seat)?;
+    let position = Position {
+        above: above.name,
+        level: above.height,
+        name,
+        height: 1,
+    };
+    Some(End {
+        position,
+        here,
+        mismatch: None,
+    })
 }
 
 /// Why a call isn't made as yet.
@@ -159,11 +205,12 @@ fn refusal_of(lacks: bool) -> Refusal {
     }
 }
 
-/// Gives a leaf's key a value, or makes room there for it: `Busy`. So it is too where a writer came in between. `OutOfMemory`
-/// where a node is lacking.
+/// Gives a key of an open leaf a value, or makes room there for it: `Busy`. So it is too where a writer came in between.
+/// `OutOfMemory` where a node is lacking.
+#[inline(always)]
 fn insert_at(
     nodes: &Nodes,
-    position: Position,
+    end: End<'_>,
     key: u64,
     value: u64,
     room: &mut Room,
@@ -171,13 +218,15 @@ fn insert_at(
 ) -> Result<Option<u64>, Refusal>
     requires book { seat.old.book ≡ nodes.now }
     requires ready { IsReady seat.old.view room.old }
-    requires position { KnowsPosition seat.old.view key position }
-    requires leaf { position.height ≡ 1 }
+    requires position { KnowsPosition seat.old.view key end.position }
+    requires leaf { let here = end.here
+        in IsOpen seat.old.view seat.old.book here.words.now here.taken end.position.name key 1 }
     ensures told { (seat.new.book ≡ seat.old.book) × (seat.new.id ≡ seat.old.id)
         × IsReady seat.new.view room.new
         × Inserts (ask seat.old.id key value 1) result seat.old.view seat.new.view }
 {
-    match insert_here::<Brand>(nodes, position.name, key, value, seat) {
+    let End { position, here, .. } = end;
+    match insert_here::<Brand>(here, position.name, key, value, seat) {
         Ok(old) => Ok(old),
         Err(Hindrance::Full) => Err(refusal_of(enlarge(nodes, position, key, room, seat))),
         Err(Hindrance::Busy) => Err(Refusal::Busy),
@@ -223,6 +272,33 @@ pub fn part(
     false
 }
 
+/// Gives a key a value in its new leaf, which is below the node at which the key's path has ended. `Busy` and `OutOfMemory` as by
+/// `insert_at`.
+#[inline(never)]
+fn insert_new(
+    nodes: &Nodes,
+    above: Position,
+    name: u64,
+    key: u64,
+    value: u64,
+    room: &mut Room,
+    seat: &mut Seat,
+) -> Result<Option<u64>, Refusal>
+    requires book { seat.old.book ≡ nodes.now }
+    requires ready { IsReady seat.old.view room.old }
+    requires above { KnowsPosition seat.old.view key above }
+    requires inner { 2 ≤ above.height }
+    requires named { Names seat.old.view name key 1 }
+    ensures told { (seat.new.book ≡ seat.old.book) × (seat.new.id ≡ seat.old.id)
+        × IsReady seat.new.view room.new
+        × Inserts (ask seat.old.id key value 1) result seat.old.view seat.new.view }
+{
+    let Some(leaf) = reach(nodes, above, name, key, seat) else {
+        return Err(Refusal::Busy);
+    };
+    insert_at(nodes, leaf, key, value, room, seat)
+}
+
 /// Inserts a value, or comes nearer to it by a node: `Busy`. So it is too where a writer came in between. `OutOfMemory` where
 /// a node is lacking.
 fn insert_once(
@@ -238,16 +314,22 @@ fn insert_once(
         × IsReady seat.new.view room.new
         × Inserts (ask seat.old.id key value 1) result seat.old.view seat.new.view }
 {
-    let Some(End { position, mismatch }) = descend(nodes, key, seat) else {
+    let Some(end) = descend(nodes, key, seat) else {
         return Err(Refusal::Busy);
     };
+    let End {
+        position,
+        mismatch,
+        ..
+    } = end;
     if let Some(mismatch) = mismatch {
         return Err(refusal_of(part(nodes, position, mismatch, key, room, seat)));
     }
     if position.height > 1 {
-        return Err(refusal_of(extend(nodes, position, key, room, seat)));
+        let name = extend(nodes, position, key, room, seat)?;
+        return insert_new(nodes, position, name, key, value, room, seat);
     }
-    insert_at(nodes, position, key, value, room, seat)
+    insert_at(nodes, end, key, value, room, seat)
 }
 
 /// More room where a node is lacking. Without memory for that, larger nodes serve from then on. `false` where they do already.

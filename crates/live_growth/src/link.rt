@@ -1,5 +1,5 @@
 //! A new node comes below another.
-ghost use Rattle.std.specs.Prelude.{◌≡◌, ℕ, ◌≤◌, [], length, None, IfNone};
+ghost use Rattle.std.specs.Prelude.{◌≡◌, ℕ, ◌≤◌, [], length, None, IfNone, IfOk};
 ghost use Rattle.spec_node.specs.TableNode.{TableNode};
 ghost use Rattle.spec_map.specs.Map.{lookup};
 ghost use Rattle.live_layout.specs.Words.{Looks};
@@ -77,13 +77,13 @@ impl Room {
     }
 }
 
-/// Why no child can be put under a byte: there is one, or no room. `None` where it can.
+/// Why no child can be put under a byte: there is one, so a writer came in between, or no room. `None` where it can.
 fn obstacle<S, D: WriteWords<S>>(
     draft: &D,
     form: NodeType,
     byte: u8,
     seat: &mut S,
-) -> Option<Result<(), Hindrance>>
+) -> Option<Hindrance>
     requires may { D.may_write draft.now seat.old }
     requires long { length (D.words draft.now seat.old) ≡ words_of form }
     ensures seat { Looks D.may_write D.words draft.now seat.old seat.new }
@@ -94,16 +94,16 @@ fn obstacle<S, D: WriteWords<S>>(
     let long = words_in(form);
     let cells = AsReadWords { draft, long };
     if find(&cells, form, byte, seat).is_some() {
-        return Some(Ok(()));
+        return Some(Hindrance::Busy);
     }
     if is_full(draft, form, seat) {
-        return Some(Err(Hindrance::Full));
+        return Some(Hindrance::Full);
     }
     None
 }
 
 /// Makes an empty leaf for a key below this node, where there is none, of an obsolete node. The name of that one is kept as a spare
-/// one until it is locked.
+/// one until it is locked. It is the leaf's then.
 pub fn link<A: Asks>(
     nodes: &Nodes,
     name: u64,
@@ -124,6 +124,7 @@ pub fn link<A: Asks>(
         × (seat.new.view.room ≡ seat.old.view.room) }
     ensures free_nodes { (v : SeatView View) → HasFreeNodes v free_nodes.old
         → HasFreeNodes v free_nodes.new }
+    ensures linked { IfOk result (λ _. Names seat.new.view spare key 1) }
 {
     if spare >= 1 << 56 {
         return Err(Hindrance::Busy);
@@ -142,9 +143,9 @@ pub fn link<A: Asks>(
         return Err(Hindrance::Busy);
     };
     let parent: LockedWords<'_, MapView, MapLaw, 0> = LockedWords { words };
-    if let Some(end) = obstacle(&parent, form, byte, seat) {
+    if let Some(hindrance) = obstacle(&parent, form, byte, seat) {
         unlock_same(words, free, seat);
-        return end;
+        return Err(hindrance);
     }
     free_nodes.forget(spare);
     let Some(again) = reclaim(others, spare, seat) else {

@@ -3,17 +3,17 @@ ghost use Rattle.std.specs.Prelude.{◌≡◌, ℕ, [], length, IfOk, OnErr};
 ghost use Rattle.spec_node.specs.TableNode.{TableNode};
 ghost use Rattle.live_layout.specs.Words.{Stays};
 ghost use Rattle.live_layout.specs.Encodes.{words_of, Encodes};
-ghost use Rattle.live_reads.specs.Paths.{Names};
+ghost use Rattle.live_reads.specs.Paths.{IsOpen};
 ghost use Rattle.live_growth.specs.Holds.{HasRest, IsWritten, IsDone};
 
-use crate::held::{lock_node, unlock_same};
+use crate::held::{lock_open, unlock_same};
 use live_law::law::{Asks, Insert, MapLaw, MapView};
 use live_layout::change::{change, is_full, put};
 use live_layout::form::form_below;
 use live_layout::words::WriteWords;
 use live_nodes::node;
 use live_nodes::rows::LockedWords;
-use live_reads::path::{Nodes, Seat, byte_at, words_at};
+use live_reads::path::{Opened, Seat, byte_at};
 use node_base::base_node::NodeType;
 
 /// Gives a byte of a leaf a value: the one before. `None` where there is no room, and then nothing is written.
@@ -49,29 +49,27 @@ pub enum Hindrance {
     Busy,
 }
 
-/// Gives a key of a leaf a value. Another writer may be busy there, or the leaf is full.
+/// Gives a key of an open leaf a value. Another writer may have come in between, or the leaf is full.
+#[inline(always)]
 pub fn insert_here<A: Asks>(
-    nodes: &Nodes,
+    here: Opened<'_>,
     name: u64,
     key: u64,
     value: u64,
     seat: &mut Seat,
 ) -> Result<Option<u64>, Hindrance>
-    requires book { seat.old.book ≡ nodes.now }
     requires asks { (A.ask.key ≡ key) × (A.ask.value ≡ value) × (A.ask.caller ≡ seat.old.id) }
-    requires named { Names seat.old.view name key 1 }
+    requires open { IsOpen seat.old.view seat.old.book here.words.now here.taken name key 1 }
     requires rests { (seat.old.view.client.own ≡ []) × (seat.old.view.holds ≡ []) }
     ensures told { (seat.new.book ≡ seat.old.book) × (seat.new.id ≡ seat.old.id)
         × HasRest seat.old.view seat.new.view
         × IfOk result (λ old. IsDone A.ask old seat.old.view seat.new.view)
         × OnErr result (seat.new.view.client.seen ≡ seat.old.view.client.seen) }
 {
-    let Some(words) = words_at(nodes, name) else {
-        return Err(Hindrance::Busy);
-    };
+    let words = here.words;
     let form = form_below(name);
     let byte = byte_at(key, 1);
-    let Some(free) = lock_node(words, name, 1, key, seat) else {
+    let Some(free) = lock_open(here, name, 1, key, seat) else {
         return Err(Hindrance::Busy);
     };
     let held: LockedWords<'_, MapView, MapLaw, 0> = LockedWords { words };

@@ -84,7 +84,7 @@ impl Pool {
         ensures seen { seat.new.view.client.seen ≡ seat.old.view.client.seen }
     {
         for _ in 0..LOOKS {
-            if self.supply_once(room, seat, form) || !self.is_taken(form) {
+            if !self.may_have(form) || self.supply_once(room, seat, form) {
                 return;
             }
             spin_loop();

@@ -5,7 +5,7 @@ ghost use Rattle.live_updates.specs.Refusals.{Refused};
 use crate::cleanup_queue;
 use crate::free_list::{FreeList, add_to};
 use crate::pool::{FORMS, Pool, STRIPES};
-use counted_slot::{Counted, MARKED};
+use counted_slot::{Counted, FREE};
 use live_detach::tidy::tidy;
 use live_growth::link::Room;
 use live_growth::map::{Guard, Refusal};
@@ -56,7 +56,18 @@ impl Pool {
     /// To be called after a call that may insert or remove, with what the guard had before it. The path that the guard has still to
     /// tidy is tried. If it made nodes or took some out, so are up to two that others have deferred. Then one node too many goes to
     /// a free list of its form, and of those forms that the guard has none of it gets one.
+    #[inline(always)]
     pub fn settle(&self, guard: &mut Guard, before: Room)
+        requires map { guard.old.book ≡ self.now }
+        ensures { guard.new ≡ guard.old }
+    {
+        if guard.room != before || before.cleanup_due.is_some() {
+            self.put_in_order(guard, before);
+        }
+    }
+
+    // What is left to be done after a call, as `settle` has it, where there may be something.
+    fn put_in_order(&self, guard: &mut Guard, before: Room)
         requires map { guard.old.book ≡ self.now }
         ensures { guard.new ≡ guard.old }
     {
@@ -224,11 +235,11 @@ impl Pool {
         self.free_lists.get(place)
     }
 
-    // Whether another thread is at a free list of this form.
-    pub(crate) fn is_taken(&self, form: NodeType) -> bool {
+    // Whether a free list of this form has a node, or another thread is at it.
+    pub(crate) fn may_have(&self, form: NodeType) -> bool {
         for stripe in 0..STRIPES {
             if let Some(slot) = self.free_list_at(form, stripe) {
-                if slot.load() == MARKED {
+                if slot.load() != FREE {
                     return true;
                 }
             }

@@ -1,9 +1,9 @@
 //! The path down to where a key is, or would be.
 ghost use Rattle.std.specs.Prelude.{◌≡◌, IfSome};
-ghost use Rattle.live_reads.specs.Paths.{KnowsRootWord, Keeps};
+ghost use Rattle.live_reads.specs.Paths.{KnowsRootWord, IsOpen, Keeps};
 ghost use Rattle.live_reads.specs.Positions.{IsEnd};
 
-use crate::path::{Nodes, Seat, open, root};
+use crate::path::{Nodes, Opened, Seat, open, root};
 use crate::prefix_match::{Mismatch, Next, step};
 use std::marker::Brand;
 
@@ -16,21 +16,26 @@ pub struct Position {
     pub height: usize,
 }
 
-/// Where a key's path ends as yet. There may be a node below whose path the key leaves.
+/// Where a key's path ends as yet: at a node, which is open if it is a leaf. There may be a node below whose path the key
+/// leaves.
 #[derive(Clone, Copy)]
-pub struct End {
+pub struct End<'a> {
     pub position: Position,
+    pub here: Opened<'a>,
     pub mismatch: Option<Mismatch>,
 }
 
 /// Where a key's path ends as yet. `None` where a writer came in between.
-pub fn descend(nodes: &Nodes, key: u64, seat: &mut Seat) -> Option<End>
+#[inline(always)]
+pub fn descend<'a>(nodes: &'a Nodes, key: u64, seat: &mut Seat) -> Option<End<'a>>
     requires book { seat.old.book ≡ nodes.now }
     requires root_word { KnowsRootWord seat.old.view }
     ensures told { (seat.new.book ≡ seat.old.book) × (seat.new.id ≡ seat.old.id)
         × Keeps seat.old.view seat.new.view
         × (seat.new.view.client.seen ≡ seat.old.view.client.seen)
         × IfSome result (λ end. IsEnd seat.new.view key end) }
+    ensures leaf { IfSome result (λ end. let here = end.here in end.position.height ≡ 1
+        → IsOpen seat.new.view seat.new.book here.words.now here.taken end.position.name key 1) }
 {
     let name = root(nodes, key, seat)?;
     let mut position = Position {
@@ -45,6 +50,7 @@ pub fn descend(nodes: &Nodes, key: u64, seat: &mut Seat) -> Option<End>
         match step.next {
             Next::Ends => return Some(End {
                 position,
+                here,
                 mismatch: None,
             }),
             Next::Goes(name, height) => {
@@ -59,6 +65,7 @@ pub fn descend(nodes: &Nodes, key: u64, seat: &mut Seat) -> Option<End>
             Next::Mismatches(mismatch) => {
                 return Some(End {
                     position,
+                    here,
                     mismatch: Some(mismatch),
                 });
             }
@@ -66,6 +73,7 @@ pub fn descend(nodes: &Nodes, key: u64, seat: &mut Seat) -> Option<End>
     }
     Some(End {
         position,
+        here,
         mismatch: None,
     })
 }

@@ -1,11 +1,13 @@
 -- A call that ends by what was found, or by an update.
 use Rattle.std.proofs.Common.{◌≡◌, ◌≢◌, ℕ, Bool, List, Option, Some, None, IsSome, Ok, Err, if◌then◌else◌, rules, subst, eq-eqb, ne_eqb}
 use Rattle.share_rule.specs.History.{Entry}
+use Rattle.word_book.specs.Book.{Book}
 use Rattle.live_nodes.specs.Seats.{SeatView}
 use Rattle.live_law.specs.Views.{View}
 use Rattle.live_law.specs.Tree.{Answers}
 use Rattle.live_updates.specs.Entries.{swapped}
 use Rattle.live_updates.specs.declared.leaf.Missed.{Missed}
+use Rattle.live_reads.specs.declared.descend.End.{End}
 use Rattle.live_updates.specs.declared.lookup.Site.{Site}
 use Rattle.live_updates.specs.declared.lookup.Site.TheVariants as sites
 use Rattle.live_updates.specs.inner.Lookups.{Lookup, EndsBy, Sought, Swap, swap_of, failure, exchange_fails}
@@ -14,14 +16,14 @@ use Rattle.live_updates.specs.inner.Updates.{Update, Updated}
 abbrev Seen : Type 0
 Seen = SeatView View
 
-pub no_more : (q : Lookup) (o : Option Site) (v w : Seen) → o ≡ None → Sought q o v w → w.client.seen ≡ v.client.seen
-no_more q o v w e s = subst (λ (z : Option Site). Sought q z v w) e s
+pub no_more : (q : Lookup) (b : Book) (o : Option Site) (v w : Seen) → o ≡ None → Sought q b o v w → w.client.seen ≡ v.client.seen
+no_more q b o v w e s = subst (λ (z : Option Site). Sought q b z v w) e s
 
-pub at_none : (q : Lookup) (o : Option Site) (v w : Seen) → o ≡ Some sites.Absent → Sought q o v w → EndsBy q.caller (q.entry None) v w
-at_none q o v w e s = subst (λ (z : Option Site). Sought q z v w) e s
+pub at_none : (q : Lookup) (b : Book) (o : Option Site) (v w : Seen) → o ≡ Some sites.Absent → Sought q b o v w → EndsBy q.caller (q.entry None) v w
+at_none q b o v w e s = subst (λ (z : Option Site). Sought q b z v w) e s
 
-pub at_some : (q : Lookup) (o : Option Site) (name x : ℕ) (v w : Seen) → o ≡ Some (sites.At name x) → Sought q o v w → EndsBy q.caller (q.entry (Some x)) v w
-at_some q o name x v w e s = (subst (λ (z : Option Site). Sought q z v w) e s).0
+pub at_some : (q : Lookup) (b : Book) (o : Option Site) (leaf : End) (x : ℕ) (v w : Seen) → o ≡ Some (sites.At leaf x) → Sought q b o v w → EndsBy q.caller (q.entry (Some x)) v w
+at_some q b o leaf x v w e s = (subst (λ (z : Option Site). Sought q b z v w) e s).0
 
 pub missed_same : (u : Update) (o : Option Missed) (v w : Seen) → IsSome o → Updated u o v w → w.client.seen ≡ v.client.seen
 missed_same u None v w some_missed d = absurd (search rules)

@@ -1,5 +1,5 @@
 -- What a seat knows after a node was read in a look-up.
-use Rattle.std.proofs.Common.{◌≡◌, ◌≢◌, ◌↔◌, ℕ, ◌*◌, ◌≤◌, zero, suc, Bool, true, false, IsTrue, List, ◌∷◌, ◌++◌, Option, Some, None, refl, sym, ap, ◌∙◌, subst, arith}
+use Rattle.std.proofs.Common.{◌≡◌, ◌≢◌, ◌↔◌, ℕ, ◌*◌, ◌≤◌, zero, suc, Bool, true, false, IsTrue, List, ◌∷◌, ◌++◌, length, Option, Some, None, refl, sym, ap, ◌∙◌, subst, arith}
 use mathlib.Core.Logic.{dite}
 use native.Mathlib.Decide.{ℕ_discrete}
 use Rattle.spec_node.specs.TableNode.{TableNode, Child}
@@ -19,10 +19,13 @@ use Rattle.live_law.specs.Views.{View}
 use Rattle.live_law.specs.Tree.{IsMap, IsOfKind, Answers}
 use Rattle.live_reads.specs.Mismatches.{IsMismatched}
 use Rattle.live_reads.specs.Paths.{IsOpen, Keeps, Sights}
+use Rattle.live_reads.proofs.Finds.{names_kept}
 use Rattle.live_reads.proofs.Views.{learned_keeps, may_check_open, open_checked, open_missed}
+use Rattle.live_reads.specs.declared.descend.End.{End}
+use Rattle.live_updates.specs.inner.Updates.{HasExpected}
 use Rattle.live_updates.specs.declared.lookup.Site.{Site}
 use Rattle.live_updates.specs.declared.lookup.Site.TheVariants as sites
-use Rattle.live_updates.specs.inner.Lookups.{Lookup, IsLookup, asked_by, MayEnd, MaySight, Seeks, LearnsSeek, EndsBy, Found, Lacks, Sought}
+use Rattle.live_updates.specs.inner.Lookups.{Lookup, IsLookup, IsOpenLeaf, IsLeafWith, asked_by, MayEnd, MaySight, Seeks, LearnsSeek, EndsBy, Found, Lacks, Sought}
 use Rattle.live_updates.proofs.Sought.{node_seeks}
 
 abbrev Seen : Type 0
@@ -65,13 +68,13 @@ lacks_so q b v w e l = subst (λ (z : Bool). Lacks q z v w) e l
 pub lacks_not : (q : Lookup) (b : Bool) (v w : Seen) → b ≡ false → Lacks q b v w → w.client.seen ≡ v.client.seen
 lacks_not q b v w e l = subst (λ (z : Bool). Lacks q z v w) e l
 
-pub sought_later : (q : Lookup) (o : Option Site) (u v w : Seen) → v.client.seen ≡ u.client.seen → Sought q o v w → Sought q o u w
-sought_later q None u v w e s = s ∙ e
-sought_later q (Some sites.Absent) u v w e s = ends_later q.caller (q.entry None) u v w e s
-sought_later q (Some (sites.At name x)) u v w e s = (ends_later q.caller (q.entry (Some x)) u v w e s.0, s.1)
+pub sought_later : (q : Lookup) (b : Book) (o : Option Site) (u v w : Seen) → v.client.seen ≡ u.client.seen → Sought q b o v w → Sought q b o u w
+sought_later q b None u v w e s = s ∙ e
+sought_later q b (Some sites.Absent) u v w e s = ends_later q.caller (q.entry None) u v w e s
+sought_later q b (Some (sites.At leaf x)) u v w e s = (ends_later q.caller (q.entry (Some x)) u v w e s.0, s.1)
 
-pub sought_none : (q : Lookup) (o : Option Site) (v w : Seen) → o ≡ None → w.client.seen ≡ v.client.seen → Sought q o v w
-sought_none q o v w e same = subst (λ (z : Option Site). Sought q z v w) (sym e) same
+pub sought_none : (q : Lookup) (b : Book) (o : Option Site) (v w : Seen) → o ≡ None → w.client.seen ≡ v.client.seen → Sought q b o v w
+sought_none q b o v w e same = subst (λ (z : Option Site). Sought q b z v w) (sym e) same
 
 pub found_some : (q : Lookup) (o : Option (Option ℕ)) (x : Option ℕ) (v w : Seen) → Found q o v w → o ≡ Some x → EndsBy q.caller (q.entry x) v w
 found_some q o x v w f e = subst (λ (z : Option (Option ℕ)). Found q z v w) e f
@@ -145,6 +148,35 @@ module _ {v v₂ : Seen} {b : Book} {words : List Name} {t name key height k : �
         let kind : IsOfKind its.shape.height under = subst (λ (z : Shape). IsOfKind z.height (lookup x.is.its.children (digit z.height q.key))) shape_is x.of_kind in
         let then : Seeks q t (asked_by q) v.client its under h.0 h.1 = subst (λ (z : Shape). Covers z q.key → Seeks q t (asked_by q) v.client (spot its.number z) (lookup x.is.its.children (digit z.height q.key)) h.0 h.1) shape_is x.on_path covers in
         at_end q v w h.0 (read its.number t saw_it ∷ r.node.opened.before) h.1 h.2 t height its under found end (subst (λ (z : ℕ). IsOfKind z under) r.node.names.high kind) below then
+
+    -- and the node stays open
+    abbrev pub seek_open : m ≡ t → ((c : Content) → Agree c saw_it → Agree c r.node.opened.saw) → Keeps v w → IsOpen w b words t name key height
+    seek_open hit kept keeps =
+        let h = (open_checked v b words t its r.node.names.placed r.node.opened v₂ r.rest k r.at_k (LearnsSeek q) w m told).hit hit in record {
+          names = names_kept v w name key height keeps r.node.names;
+          opened = record { are = r.node.opened.are; saw = saw_it; before = r.node.opened.before; reads = ap (λ (z : Seen). z.reads) h.2 };
+          free = r.node.free;
+          sure = λ s is. r.node.sure s record {
+            now = is.now;
+            content = is.content;
+            its = is.its;
+            agrees = kept is.content is.agrees;
+            encodes = is.encodes;
+            in_form = is.in_form;
+            deep = is.deep;
+            prefixed = is.prefixed;
+          };
+        }
+
+-- an open leaf, and what it has
+abbrev pub leaf_open : (v : Seen) (b : Book) (key : ℕ) (e : End) (o : Option ℕ) → IsLeafWith v b key e o → IsOpenLeaf v b key e
+leaf_open v b key e None l = l
+leaf_open v b key e (Some x) l = (l.0, l.1.node)
+
+pub leaf_has : (v : Seen) (b : Book) (key : ℕ) (e : End) (o : Option ℕ) (l : IsLeafWith v b key e o) (c : Content) (n : TableNode ℕ) → Agree c (leaf_open v b key e o l).1.opened.saw → Encodes c n → n.form ≡ (leaf_open v b key e o l).1.names.spot.shape.form
+    → length n.prefix ≡ 7 → HasExpected (lookup n.children (digit 1 key)) o
+leaf_has v b key e None l c n agrees encodes formed deep = tt
+leaf_has v b key e (Some x) l c n agrees encodes formed deep = l.1.finds c n agrees encodes formed deep
 
 -- AN OPEN NODE was read that leads on to one whose path the key leaves.
 pub record LeadsAside (v : Seen) (b : Book) (words : List Name) (t name key height k : ℕ) (q : Lookup) : Type 0 where

@@ -1,16 +1,17 @@
 //! A leaf is locked, and a key there gets another value, or none.
 ghost use Rattle.std.specs.Prelude.{◌≡◌, ℕ, [], length, Some, None};
+ghost use Rattle.spec_map.specs.Map.{lookup};
 ghost use Rattle.spec_node.specs.TableNode.{TableNode};
 ghost use Rattle.live_layout.specs.Words.{Stays, Looks};
 ghost use Rattle.live_layout.specs.Encodes.{words_of, IsCounted, Encodes};
-ghost use Rattle.live_reads.specs.Paths.{Names};
 ghost use Rattle.live_growth.specs.Holds.{HasRest};
 ghost use Rattle.live_growth.specs.Calls.{IsReady};
-ghost use Rattle.live_updates.specs.inner.Updates.{IsUpdate, IsSet, Updated, missed_by};
+ghost use Rattle.live_updates.specs.inner.Lookups.{IsLeafWith};
+ghost use Rattle.live_updates.specs.inner.Updates.{HasExpected, IsUpdate, IsSet, Updated, missed_by};
 
 use live_detach::shrink_node::{Fill, fill_of, shrink_on_path};
-use live_detach::tidy::tidy;
-use live_growth::held::{lock_node, unlock_same};
+use live_detach::tidy::tidy_from;
+use live_growth::held::{lock_open, unlock_same};
 use live_growth::link::Room;
 use live_law::law::{MapLaw, MapView};
 use live_layout::change::{change, is_full, put, take};
@@ -20,7 +21,8 @@ use live_layout::words::{AsReadWords, WriteWords};
 use live_nodes::node;
 use live_nodes::plays::OnLock;
 use live_nodes::rows::LockedWords;
-use live_reads::path::{Nodes, Seat, byte_at, words_at};
+use live_reads::descend::End;
+use live_reads::path::{Nodes, Seat, byte_at};
 use node_base::base_node::NodeType;
 use std::marker::{Brand, PhantomData};
 
@@ -59,7 +61,7 @@ impl<U: Updates> OnLock<MapView> for Write<U> {
     ghost told = { Writes U.update };
 }
 
-/// Gives a byte of a leaf another value, if it has the expected one.
+/// Gives a byte of a leaf another value in the place of the one that it has.
 fn replace<S, D: WriteWords<S>>(
     draft: &D,
     form: NodeType,
@@ -70,6 +72,8 @@ fn replace<S, D: WriteWords<S>>(
 ) -> Option<Missed>
     requires may { D.may_write draft.now seat.old }
     requires long { length (D.words draft.now seat.old) ≡ words_of form }
+    requires known { (n : TableNode ℕ) → Encodes (D.words draft.now seat.old) n → n.form ≡ form
+        → length n.prefix ≡ 7 → HasExpected (lookup n.children byte) (Some old) }
     ensures seat { Stays D.may_write D.rest draft.now seat.old seat.new }
     ensures long { length (D.words draft.now seat.new) ≡ words_of form }
     ensures is { (n : TableNode ℕ) → Encodes (D.words draft.now seat.old) n → n.form ≡ form
@@ -77,18 +81,14 @@ fn replace<S, D: WriteWords<S>>(
         → IsSet byte (Some old) (Some new) result (D.words draft.now seat.old)
         (D.words draft.now seat.new) n }
 {
-    let long = words_in(form);
-    let cells = AsReadWords { draft, long };
-    if find(&cells, form, byte, seat) != Some(old) {
-        return Some(Missed::Changed);
-    }
+    let _ = old;
     if change(draft, form, byte, new, seat).is_none() {
         return Some(Missed::Changed);
     }
     None
 }
 
-/// Takes a byte's value out of a leaf, if it is the expected one.
+/// Takes the value out of a leaf that a byte has.
 fn take_out<S, D: WriteWords<S>>(
     draft: &D,
     form: NodeType,
@@ -99,6 +99,8 @@ fn take_out<S, D: WriteWords<S>>(
     requires may { D.may_write draft.now seat.old }
     requires long { length (D.words draft.now seat.old) ≡ words_of form }
     requires few { IsCounted form (D.words draft.now seat.old) }
+    requires known { (n : TableNode ℕ) → Encodes (D.words draft.now seat.old) n → n.form ≡ form
+        → length n.prefix ≡ 7 → HasExpected (lookup n.children byte) (Some old) }
     ensures seat { Stays D.may_write D.rest draft.now seat.old seat.new }
     ensures long { length (D.words draft.now seat.new) ≡ words_of form }
     ensures is { (n : TableNode ℕ) → Encodes (D.words draft.now seat.old) n → n.form ≡ form
@@ -106,11 +108,7 @@ fn take_out<S, D: WriteWords<S>>(
         → IsSet byte (Some old) None result (D.words draft.now seat.old)
         (D.words draft.now seat.new) n }
 {
-    let long = words_in(form);
-    let cells = AsReadWords { draft, long };
-    if find(&cells, form, byte, seat) != Some(old) {
-        return Some(Missed::Changed);
-    }
+    let _ = old;
     if take(draft, form, byte, seat).is_none() {
         return Some(Missed::Changed);
     }
@@ -146,7 +144,8 @@ fn put_in<S, D: WriteWords<S>>(
     None
 }
 
-/// Gives a byte of a leaf what it is to have, if it has what is expected. Where both are nothing, nothing is written.
+/// Gives a byte of a leaf what it is to have, if it has what is expected. A value that is expected is known to be there. Where both
+/// are nothing, nothing is written.
 fn set<S, D: WriteWords<S>>(
     draft: &D,
     form: NodeType,
@@ -158,6 +157,8 @@ fn set<S, D: WriteWords<S>>(
     requires may { D.may_write draft.now seat.old }
     requires long { length (D.words draft.now seat.old) ≡ words_of form }
     requires few { IsCounted form (D.words draft.now seat.old) }
+    requires known { (n : TableNode ℕ) → Encodes (D.words draft.now seat.old) n → n.form ≡ form
+        → length n.prefix ≡ 7 → HasExpected (lookup n.children byte) old }
     ensures seat { Stays D.may_write D.rest draft.now seat.old seat.new }
     ensures long { length (D.words draft.now seat.new) ≡ words_of form }
     ensures is { (n : TableNode ℕ) → Encodes (D.words draft.now seat.old) n → n.form ≡ form
@@ -184,32 +185,30 @@ fn left_in<S, D: WriteWords<S>>(draft: &D, form: NodeType, new: Option<u64>, sea
     fill_of(draft, form, seat)
 }
 
-/// Gives a key of a leaf what it is to have, if it has what is expected. Otherwise nothing is written. How many keys the leaf has
-/// then, where one was taken out.
+/// Gives a key of an open leaf what it is to have, if it has what is expected. Otherwise nothing is written. How many keys the leaf
+/// has then, where one was taken out.
+#[inline(always)]
 fn update_leaf<U: Updates>(
-    nodes: &Nodes,
-    name: u64,
+    leaf: End<'_>,
     key: u64,
     old: Option<u64>,
     new: Option<u64>,
     seat: &mut Seat,
 ) -> Result<Fill, Missed>
-    requires book { seat.old.book ≡ nodes.now }
     requires asks { (U.update.key ≡ key) × (U.update.caller ≡ seat.old.id) }
     requires values { (U.update.old ≡ old) × (U.update.new ≡ new) }
     requires legal { IsUpdate U.update }
-    requires named { Names seat.old.view name key 1 }
+    requires open { IsLeafWith seat.old.view seat.old.book key leaf old }
     requires rests { (seat.old.view.client.own ≡ []) × (seat.old.view.holds ≡ []) }
     ensures told { (seat.new.book ≡ seat.old.book) × (seat.new.id ≡ seat.old.id)
         × HasRest seat.old.view seat.new.view
         × Updated U.update (missed_by result) seat.old.view seat.new.view }
 {
-    let Some(words) = words_at(nodes, name) else {
-        return Err(Missed::Busy);
-    };
+    let End { position, here, .. } = leaf;
+    let (words, name) = (here.words, position.name);
     let form = form_below(name);
     let byte = byte_at(key, 1);
-    let Some(free) = lock_node(words, name, 1, key, seat) else {
+    let Some(free) = lock_open(here, name, 1, key, seat) else {
         return Err(Missed::Busy);
     };
     let held: LockedWords<'_, MapView, MapLaw, 0> = LockedWords { words };
@@ -222,36 +221,34 @@ fn update_leaf<U: Updates>(
     Ok(left)
 }
 
-/// Gives a key of a leaf what it is to have, if it has what is expected. Otherwise nothing is written.
+/// Gives a key of an open leaf what it is to have, if it has what is expected. Otherwise nothing is written.
 pub fn update_here<U: Updates>(
-    nodes: &Nodes,
-    name: u64,
+    leaf: End<'_>,
     key: u64,
     old: Option<u64>,
     new: Option<u64>,
     seat: &mut Seat,
 ) -> Option<Missed>
-    requires book { seat.old.book ≡ nodes.now }
     requires asks { (U.update.key ≡ key) × (U.update.caller ≡ seat.old.id) }
     requires values { (U.update.old ≡ old) × (U.update.new ≡ new) }
     requires legal { IsUpdate U.update }
-    requires named { Names seat.old.view name key 1 }
+    requires open { IsLeafWith seat.old.view seat.old.book key leaf old }
     requires rests { (seat.old.view.client.own ≡ []) × (seat.old.view.holds ≡ []) }
     ensures told { (seat.new.book ≡ seat.old.book) × (seat.new.id ≡ seat.old.id)
         × HasRest seat.old.view seat.new.view
         × Updated U.update result seat.old.view seat.new.view }
 {
-    match update_leaf::<U>(nodes, name, key, old, new, seat) {
+    match update_leaf::<U>(leaf, key, old, new, seat) {
         Ok(_) => None,
         Err(missed) => Some(missed),
     }
 }
 
-/// Gives a key of a leaf what it is to have, if it has what is expected. Otherwise nothing is written. A leaf without keys is taken
-/// out of the map, and one that is left with few goes into the next smaller form.
+/// Gives a key of an open leaf what it is to have, if it has what is expected. Otherwise nothing is written. A leaf without keys is
+/// taken out of the map, and one that is left with few goes into the next smaller form.
 pub fn exchange_here<U: Updates>(
     nodes: &Nodes,
-    name: u64,
+    leaf: End<'_>,
     key: u64,
     old: Option<u64>,
     new: Option<u64>,
@@ -263,18 +260,18 @@ pub fn exchange_here<U: Updates>(
     requires values { (U.update.old ≡ old) × (U.update.new ≡ new) }
     requires legal { IsUpdate U.update }
     requires ready { IsReady seat.old.view room.old }
-    requires named { Names seat.old.view name key 1 }
+    requires open { IsLeafWith seat.old.view seat.old.book key leaf old }
     ensures told { (seat.new.book ≡ seat.old.book) × (seat.new.id ≡ seat.old.id)
         × IsReady seat.new.view room.new
         × Updated U.update result seat.old.view seat.new.view }
 {
-    match update_leaf::<U>(nodes, name, key, old, new, seat) {
+    match update_leaf::<U>(leaf, key, old, new, seat) {
         Ok(Fill::Empty) => {
-            tidy(nodes, key, room, seat);
+            tidy_from(nodes, leaf.position, key, room, seat);
             None
         }
         Ok(left) => {
-            shrink_on_path(nodes, name, left, key, room, seat);
+            shrink_on_path(nodes, leaf.position.name, left, key, room, seat);
             None
         }
         Err(missed) => Some(missed),

@@ -1,7 +1,7 @@
 //! A look-up of a key, which may end a call: the key's value, and its leaf.
-ghost use Rattle.std.specs.Prelude.{◌≡◌, ◌≤◌};
+ghost use Rattle.std.specs.Prelude.{◌≡◌, ◌≤◌, IfSome};
 ghost use Rattle.live_reads.specs.Paths.{KnowsRootWord, Sights, IsOpen, Keeps};
-ghost use Rattle.live_updates.specs.inner.Lookups.{IsLookup, MaySight, Found, Lacks, Sought};
+ghost use Rattle.live_updates.specs.inner.Lookups.{IsLookup, MaySight, Found, Lacks, Sought, IsOpenWith};
 
 use live_law::law::{MapLaw, MapView};
 use live_layout::form::form_below;
@@ -9,9 +9,10 @@ use live_layout::search::find;
 use live_nodes::node;
 use live_nodes::plays::OnCheck;
 use live_nodes::rows::SharedWords;
+use live_reads::descend::{End, Position, descend};
 use live_reads::mismatch::watch;
-use live_reads::path::{Nodes, Opened, Seat, byte_at, open, root};
-use live_reads::prefix_match::{Next, enter, step};
+use live_reads::path::{Nodes, Opened, Seat, byte_at};
+use live_reads::prefix_match::enter;
 use std::marker::{Brand, PhantomData};
 
 /// A look-up: who makes it, of which key, and where its call ends. A caller picks it.
@@ -28,11 +29,11 @@ impl Lookups for Brand {
     ghost lookup = { lookup_of 0 0 (λ _. None) };
 }
 
-/// A key is absent, or it is in the leaf of that name and has that value.
-#[derive(Clone, Copy, Debug, PartialEq, Eq)]
-pub enum Site {
+/// A key is absent, or its path ends at that leaf, which is open, and it has that value.
+#[derive(Clone, Copy)]
+pub enum Site<'a> {
     Absent,
-    At(u64, u64),
+    At(End<'a>, u64),
 }
 
 /// A call ends at a node, or goes on with what was found there.
@@ -46,7 +47,7 @@ impl<Q: Lookups> OnCheck<MapView> for Learn<Q> {
     ghost told = { LearnsSeek Q.lookup };
 }
 
-/// What an open leaf has under the key's digit. `None` where a writer came in between.
+/// What an open leaf has under the key's digit. It stays open. `None` where a writer came in between.
 pub fn ends_in<Q: Lookups>(
     here: Opened<'_>,
     name: u64,
@@ -59,6 +60,8 @@ pub fn ends_in<Q: Lookups>(
     ensures told { (seat.new.book ≡ seat.old.book) × (seat.new.id ≡ seat.old.id)
         × Keeps seat.old.view seat.new.view
         × Found Q.lookup result seat.old.view seat.new.view }
+    ensures still { let at = here.entry in IfSome result
+        (IsOpenWith seat.new.view seat.new.book at.words.now at.taken name key) }
 {
     let Opened { words, taken } = here;
     let form = form_below(name);
@@ -155,14 +158,14 @@ pub fn is_absent<Q: Lookups>(
 }
 
 // The key is absent at a node where its path ends. `None` where a writer came in between.
-fn absent_at<Q: Lookups>(
-    nodes: &Nodes,
+fn absent_at<'a, Q: Lookups>(
+    nodes: &'a Nodes,
     name: u64,
     height: usize,
     below: Option<u64>,
     key: u64,
     seat: &mut Seat,
-) -> Option<Site>
+) -> Option<Site<'a>>
     requires book { seat.old.book ≡ nodes.now }
     requires asks { (Q.lookup.key ≡ key) × (Q.lookup.caller ≡ seat.old.id) }
     requires legal { IsLookup Q.lookup }
@@ -171,7 +174,7 @@ fn absent_at<Q: Lookups>(
     requires below { MaySight seat.old.view below }
     ensures told { (seat.new.book ≡ seat.old.book) × (seat.new.id ≡ seat.old.id)
         × Keeps seat.old.view seat.new.view
-        × Sought Q.lookup result seat.old.view seat.new.view }
+        × Sought Q.lookup seat.new.book result seat.old.view seat.new.view }
 {
     if is_absent::<Q>(nodes, name, height, below, key, seat) {
         return Some(Site::Absent);
@@ -179,35 +182,28 @@ fn absent_at<Q: Lookups>(
     None
 }
 
-/// Where a key is. The call has ended there, if it ends by what was found. `None` where a writer came in between.
-pub fn seek<Q: Lookups>(nodes: &Nodes, key: u64, seat: &mut Seat) -> Option<Site>
+/// Where a key is: its leaf is open. The call has ended there, if it ends by what was found. `None` where a writer came in
+/// between.
+#[inline(always)]
+pub fn seek<'a, Q: Lookups>(nodes: &'a Nodes, key: u64, seat: &mut Seat) -> Option<Site<'a>>
     requires book { seat.old.book ≡ nodes.now }
     requires asks { (Q.lookup.key ≡ key) × (Q.lookup.caller ≡ seat.old.id) }
     requires legal { IsLookup Q.lookup }
     requires root_word { KnowsRootWord seat.old.view }
     ensures told { (seat.new.book ≡ seat.old.book) × (seat.new.id ≡ seat.old.id)
         × Keeps seat.old.view seat.new.view
-        × Sought Q.lookup result seat.old.view seat.new.view }
+        × Sought Q.lookup seat.new.book result seat.old.view seat.new.view }
 {
-    let mut name = root(nodes, key, seat)?;
-    let mut height = 8usize;
-    let mut here = open(nodes, name, seat)?;
-    while height > 1 {
-        let step = step::<Brand>(nodes, here, name, height, key, seat)?;
-        match step.next {
-            Next::Ends => return absent_at::<Q>(nodes, name, height, None, key, seat),
-            Next::Goes(below, lower) => {
-                name = below;
-                height = lower;
-                here = step.here;
-            }
-            Next::Mismatches(mismatch) => {
-                return absent_at::<Q>(nodes, name, height, Some(mismatch.below), key, seat);
-            }
-        }
+    let end = descend(nodes, key, seat)?;
+    let Position { name, height, .. } = end.position;
+    if let Some(mismatch) = end.mismatch {
+        return absent_at::<Q>(nodes, name, height, Some(mismatch.below), key, seat);
     }
-    match ends_in::<Q>(here, name, key, seat)? {
-        Some(value) => Some(Site::At(name, value)),
+    if height > 1 {
+        return absent_at::<Q>(nodes, name, height, None, key, seat);
+    }
+    match ends_in::<Q>(end.here, name, key, seat)? {
+        Some(value) => Some(Site::At(end, value)),
         None => Some(Site::Absent),
     }
 }

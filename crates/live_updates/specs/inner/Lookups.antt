@@ -1,15 +1,20 @@
 -- LOOK-UPS of a key, which may end a call.
-use Rattle.std.specs.Prelude.{◌≡◌, ℕ, nat_eq, Bool, true, false, List, [], ◌∷◌, ◌++◌, Option, Some, None, Result, Ok, Err}
-use Rattle.spec_node.specs.TableNode.{Child}
+use Rattle.std.specs.Prelude.{◌≡◌, ℕ, nat_eq, Bool, true, false, List, [], ◌∷◌, ◌++◌, length, Option, Some, None, Result, Ok, Err}
+use Rattle.spec_node.specs.TableNode.{TableNode, Child}
 use Rattle.spec_node.specs.declared.child.Child.TheVariants.{Payload, Node}
 use Rattle.spec_map.specs.Legal.{exchange}
 use Rattle.spec_map.specs.Map.{Pairs, lookup}
 use Rattle.share_rule.specs.History.{Entry, IsHistory}
-use Rattle.live_nodes.specs.Seats.{Place, SeatView}
-use Rattle.live_law.specs.Levels.{Spot}
+use Rattle.live_nodes.specs.Nodes.{Content}
+use Rattle.live_nodes.specs.Seats.{Place, SeatView, Agree}
+use Rattle.live_layout.specs.Encodes.{Encodes}
+use Rattle.live_law.specs.Levels.{digit, Spot}
 use Rattle.live_law.specs.Views.{Watch, View, view_of, Ask, ask, got}
-use Rattle.live_law.specs.Tree.{Answers, Parts, LearnsNode}
-use Rattle.live_reads.specs.Paths.{Names, Sights}
+use Rattle.live_law.specs.Tree.{HasValue, Answers, Parts, LearnsNode}
+use Rattle.live_reads.specs.declared.descend.End.{End}
+use Rattle.live_reads.specs.Paths.{Sights, IsOpen}
+use Rattle.live_reads.specs.Positions.{KnowsPosition}
+use Rattle.word_book.specs.Book.{Book, Name}
 use Rattle.live_updates.specs.Entries.{removed, swapped}
 use Rattle.live_updates.specs.declared.lookup.Site.{Site}
 use Rattle.live_updates.specs.declared.lookup.Site.TheVariants as sites
@@ -71,11 +76,26 @@ abbrev pub Lacks : Lookup → Bool → SeatView View → SeatView View → Type 
 Lacks q true v w = EndsBy q.caller (q.entry None) v w
 Lacks q false v w = w.client.seen ≡ v.client.seen
 
--- The key is absent, or is in a leaf. Nothing is known where a writer came in between.
-abbrev pub Sought : Lookup → Option Site → SeatView View → SeatView View → Type 0
-Sought q None v w = w.client.seen ≡ v.client.seen
-Sought q (Some sites.Absent) v w = EndsBy q.caller (q.entry None) v w
-Sought q (Some (sites.At name x)) v w = EndsBy q.caller (q.entry (Some x)) v w × Names w name q.key 1
+-- A key's path ends at a leaf, which is open.
+abbrev pub IsOpenLeaf : SeatView View → Book → ℕ → End → Type 0
+IsOpenLeaf v b key e = KnowsPosition v key e.position × IsOpen v b e.here.words.now e.here.taken e.position.name key 1
+
+-- A leaf is open, and has this under the key's digit by what was read of it.
+pub record IsOpenWith (v : SeatView View) (b : Book) (words : List Name) (taken name key : ℕ) (found : Option ℕ) : Type 0 where
+  pub node : IsOpen v b words taken name key 1
+  pub finds : (c : Content) (n : TableNode ℕ) → Agree c node.opened.saw → Encodes c n → n.form ≡ node.names.spot.shape.form → length n.prefix ≡ 7
+      → HasValue (lookup n.children (digit 1 key)) found
+
+-- A key's path ends at an open leaf. Where a value is expected there, it was found.
+abbrev pub IsLeafWith : SeatView View → Book → ℕ → End → Option ℕ → Type 0
+IsLeafWith v b key e None = IsOpenLeaf v b key e
+IsLeafWith v b key e (Some x) = KnowsPosition v key e.position × IsOpenWith v b e.here.words.now e.here.taken e.position.name key (Some x)
+
+-- The key is absent, or is in a leaf, which is open. Nothing is known where a writer came in between.
+abbrev pub Sought : Lookup → Book → Option Site → SeatView View → SeatView View → Type 0
+Sought q b None v w = w.client.seen ≡ v.client.seen
+Sought q b (Some sites.Absent) v w = EndsBy q.caller (q.entry None) v w
+Sought q b (Some (sites.At leaf x)) v w = EndsBy q.caller (q.entry (Some x)) v w × IsLeafWith w b q.key leaf (Some x)
 
 -- A removal ends where the key is absent.
 abbrev pub removal : ℕ → ℕ → Option ℕ → Option (Entry ℕ)

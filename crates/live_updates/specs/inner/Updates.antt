@@ -33,6 +33,11 @@ abbrev pub child_for : Option ℕ → Option (Child ℕ)
 child_for None = None
 child_for (Some x) = Some (Payload x)
 
+-- A byte has the value that is expected there, if one is.
+abbrev pub HasExpected : Option (Child ℕ) → Option ℕ → Type 0
+HasExpected child None = Unit {0}
+HasExpected child (Some x) = HasValue child (Some x)
+
 -- In the words of a leaf the new value replaced the old one, or nothing was written.
 abbrev pub IsSet : ℕ → Option ℕ → Option ℕ → Option Missed → Content → Content → TableNode ℕ → Type 0
 IsSet b old new None c d n = HasValue (lookup n.children b) old × Encodes d (with_child n b (child_for new))

@@ -1,14 +1,16 @@
 //! A key that is absent gets a value.
-ghost use Rattle.std.specs.Prelude.{◌≡◌, Some, None};
+ghost use Rattle.std.specs.Prelude.{◌≡◌, ◌≤◌, Some, None};
+ghost use Rattle.live_reads.specs.Paths.{Names};
 ghost use Rattle.live_reads.specs.Positions.{KnowsPosition};
 ghost use Rattle.live_growth.specs.Calls.{IsReady};
 ghost use Rattle.live_nodes.specs.Seats.{SeatView};
 ghost use Rattle.live_law.specs.Views.{View};
+ghost use Rattle.live_updates.specs.inner.Lookups.{IsOpenLeaf};
 ghost use Rattle.live_updates.specs.inner.Updates.{Update, IsUpdate};
 ghost use Rattle.live_updates.specs.inner.Ends.{Tries, Enters};
 
 use crate::leaf::{Missed, Updates, update_here};
-use live_growth::insert::{enlarge, extend, part};
+use live_growth::insert::{enlarge, extend, part, reach};
 use live_growth::link::Room;
 use live_growth::map::{Refusal, TRIES};
 use live_growth::refill::Refills;
@@ -32,10 +34,10 @@ fn tried_with(lacks: bool) -> Tried
     if lacks { Tried::Lacks } else { Tried::Again }
 }
 
-/// Gives an absent key of a leaf a value, or makes room there for it.
+/// Gives an absent key of an open leaf a value, or makes room there for it.
 fn enter_at<U: Updates>(
     nodes: &Nodes,
-    position: Position,
+    leaf: End<'_>,
     key: u64,
     value: u64,
     room: &mut Room,
@@ -46,21 +48,49 @@ fn enter_at<U: Updates>(
     requires values { (U.update.old ≡ None) × (U.update.new ≡ Some value) }
     requires legal { IsUpdate U.update }
     requires ready { IsReady seat.old.view room.old }
-    requires position { KnowsPosition seat.old.view key position }
-    requires leaf { position.height ≡ 1 }
+    requires leaf { IsOpenLeaf seat.old.view seat.old.book key leaf }
     ensures told { (seat.new.book ≡ seat.old.book) × (seat.new.id ≡ seat.old.id)
         × IsReady seat.new.view room.new
         × Tries U.update result seat.old.view seat.new.view }
 {
-    match update_here::<U>(nodes, position.name, key, None, Some(value), seat) {
+    match update_here::<U>(leaf, key, None, Some(value), seat) {
         None => Tried::Entered,
         Some(Missed::Changed) => Tried::Present,
         Some(Missed::Full) => {
-            let lacks = enlarge(nodes, position, key, room, seat);
+            let lacks = enlarge(nodes, leaf.position, key, room, seat);
             tried_with(lacks)
         }
         Some(Missed::Busy) => Tried::Again,
     }
+}
+
+/// Gives an absent key a value in its new leaf, which is below the node at which the key's path has ended.
+#[inline(never)]
+fn enter_new<U: Updates>(
+    nodes: &Nodes,
+    above: Position,
+    name: u64,
+    key: u64,
+    value: u64,
+    room: &mut Room,
+    seat: &mut Seat,
+) -> Tried
+    requires book { seat.old.book ≡ nodes.now }
+    requires asks { (U.update.key ≡ key) × (U.update.caller ≡ seat.old.id) }
+    requires values { (U.update.old ≡ None) × (U.update.new ≡ Some value) }
+    requires legal { IsUpdate U.update }
+    requires ready { IsReady seat.old.view room.old }
+    requires above { KnowsPosition seat.old.view key above }
+    requires inner { 2 ≤ above.height }
+    requires named { Names seat.old.view name key 1 }
+    ensures told { (seat.new.book ≡ seat.old.book) × (seat.new.id ≡ seat.old.id)
+        × IsReady seat.new.view room.new
+        × Tries U.update result seat.old.view seat.new.view }
+{
+    let Some(leaf) = reach(nodes, above, name, key, seat) else {
+        return Tried::Again;
+    };
+    enter_at::<U>(nodes, leaf, key, value, room, seat)
 }
 
 /// Gives an absent key a value, or comes nearer to it by a node.
@@ -80,16 +110,24 @@ fn enter_once<U: Updates>(
         × IsReady seat.new.view room.new
         × Tries U.update result seat.old.view seat.new.view }
 {
-    let Some(End { position, mismatch }) = descend(nodes, key, seat) else {
+    let Some(end) = descend(nodes, key, seat) else {
         return Tried::Again;
     };
+    let End {
+        position,
+        mismatch,
+        ..
+    } = end;
     if let Some(mismatch) = mismatch {
         return tried_with(part(nodes, position, mismatch, key, room, seat));
     }
     if position.height > 1 {
-        return tried_with(extend(nodes, position, key, room, seat));
+        return match extend(nodes, position, key, room, seat) {
+            Ok(name) => enter_new::<U>(nodes, position, name, key, value, room, seat),
+            Err(refusal) => tried_with(refusal == Refusal::OutOfMemory),
+        };
     }
-    enter_at::<U>(nodes, position, key, value, room, seat)
+    enter_at::<U>(nodes, end, key, value, room, seat)
 }
 
 /// Gives an absent key a value, as by `enter_once`. Where a node is lacking, more are asked for instead. `Lacks` where there are

@@ -75,7 +75,7 @@ fn always_once<F: FnMut(Option<u64>) -> u64, R: Refills>(
     match seek::<Brand>(nodes, key, seat) {
         Some(Site::At(leaf, value)) => {
             let new = f(Some(value));
-            if update_here::<Brand>(nodes, leaf, key, Some(value), Some(new), seat).is_some() {
+            if update_here::<Brand>(leaf, key, Some(value), Some(new), seat).is_some() {
                 return Ok(None);
             }
             Ok(Some(Some(value)))
@@ -140,7 +140,7 @@ fn add_once<R: Refills>(
     match seek::<Brand>(nodes, key, seat) {
         Some(Site::At(leaf, value)) => {
             let new = value.wrapping_add(number);
-            if update_here::<Brand>(nodes, leaf, key, Some(value), Some(new), seat).is_some() {
+            if update_here::<Brand>(leaf, key, Some(value), Some(new), seat).is_some() {
                 return Ok(None);
             }
             Ok(Some(Some(value)))

@@ -40,7 +40,7 @@ fn leaf_made(map: &Pool, guard: &mut Guard, key: u64) -> bool
     if end.position.height < 2 {
         return false;
     }
-    !extend(nodes, end.position, key, &mut guard.room, &mut guard.seat)
+    extend(nodes, end.position, key, &mut guard.room, &mut guard.seat).is_ok()
 }
 
 // Tidies the path of one key and stores another one, while another seat has the node above the first one's leaf locked. Whether

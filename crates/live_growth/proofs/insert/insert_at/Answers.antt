@@ -1,11 +1,6 @@
-use Rattle.std.proofs.Common.{subst}
-use Rattle.live_reads.specs.Paths.{Names}
 use Rattle.live_growth.proofs.Ready.{ready_rest}
 use Rattle.live_growth.proofs.StoodOn.{position_rest}
 use Rattle.live_growth.proofs.insert.insert_at.Goals as goal
-
-pub insert_here-requires-clause-named : goal.insert_here-requires-clause-named
-insert_here-requires-clause-named c = subst (λ h. Names c.args.seat.now.view c.args.position.name c.args.key h) c.requires.leaf c.requires.position.named
 
 pub returns-in-Ok : goal.returns-in-Ok
 returns-in-Ok c =
@@ -19,7 +14,7 @@ enlarge-requires-clause-ready c =
     ready_rest c.args.seat.now.view c.insert_here.new.seat.view c.args.room.now c.requires.ready c.insert_here.ensures.told.2
 
 pub enlarge-requires-clause-position : goal.enlarge-requires-clause-position
-enlarge-requires-clause-position c = position_rest c.args.seat.now.view c.insert_here.new.seat.view c.args.key c.args.position c.insert_here.ensures.told.2 c.requires.position
+enlarge-requires-clause-position c = position_rest c.args.seat.now.view c.insert_here.new.seat.view c.args.key c.args.end.position c.insert_here.ensures.told.2 c.requires.position
 
 pub returns-in-Err-Busy : goal.returns-in-Err-Busy
 returns-in-Err-Busy c =

@@ -1,8 +1,11 @@
 use Rattle.std.proofs.Common.{rules, arith, ◌≢◌, ◌∙◌}
+use Rattle.live_growth.specs.Calls.{IsReady}
+use Rattle.live_growth.specs.Rooms.{HasGrown}
 use Rattle.live_growth.proofs.Ready.{ready_again}
 use Rattle.live_growth.proofs.Rooms.{grown_twice}
 use Rattle.live_growth.proofs.StoodOn.{position_grown}
 use Rattle.live_growth.proofs.insert.lead_on.Goals as goal
+use Rattle.live_growth.proofs.insert.lead_on.Goals.{After-link}
 
 pub spare_or_made-spare-requires-clause-spare : goal.spare_or_made-spare-requires-clause-spare
 spare_or_made-spare-requires-clause-spare c = λ some. c.spare_for_new.ensures c.args.seat.now.view c.requires.ready.spare some
@@ -11,7 +14,7 @@ pub returns-then-spare-eq0 : goal.returns-then-spare-eq0
 returns-then-spare-eq0 c =
     let s = c.spare_or_made-spare.ensures in
     let g = s.grown in
-    record { told = (s.seat.0, s.seat.1, s.ready, g) }
+    record { told = (s.seat.0, s.seat.1, s.ready, g); leaf = tt }
 
 pub link-requires-clause-named : goal.link-requires-clause-named
 link-requires-clause-named c =
@@ -23,13 +26,27 @@ link-requires-clause-spare c =
     let some : c.spare_or_made-spare.result ≢ 0 = search rules in
     c.spare_or_made-spare.ensures.sighted (omega (arith, some))
 
-pub returns : goal.returns
-returns c =
+-- the leaf is linked
+linked : (c : After-link) → IsReady c.link.new.seat.view (record c.spare_or_made-spare.new.room { spare = c.link.new.free_nodes }) × HasGrown c.args.seat.now.view c.link.new.seat.view
+linked c =
     let v = c.args.seat.now.view in
     let w = c.spare_or_made-spare.new.seat.view in
     let x = c.link.new.seat.view in
     let s = c.spare_or_made-spare.ensures in
-    let g = s.grown in
     let e = c.link.ensures in
     let t = e.told in
-    record { told = (t.0 ∙ s.seat.0, t.1 ∙ s.seat.1, ready_again w x c.spare_or_made-spare.new.room c.link.new.free_nodes s.ready t.2 t.3 e.free_nodes, grown_twice v w x g t.2) }
+    (ready_again w x c.spare_or_made-spare.new.room c.link.new.free_nodes s.ready t.2 t.3 e.free_nodes, grown_twice v w x s.grown t.2)
+
+pub returns-in_err-link-clause-told : goal.returns-in_err-link-clause-told
+returns-in_err-link-clause-told c =
+    let l = linked (goal.at.returns-in_err-link-clause-told c).After-link in
+    let s = c.spare_or_made-spare.ensures in
+    let t = c.link.ensures.told in
+    (t.0 ∙ s.seat.0, t.1 ∙ s.seat.1, l.0, l.1)
+
+pub returns : goal.returns
+returns c =
+    let l = linked (goal.at.returns c).After-link in
+    let s = c.spare_or_made-spare.ensures in
+    let t = c.link.ensures.told in
+    record { told = (t.0 ∙ s.seat.0, t.1 ∙ s.seat.1, l.0, l.1); leaf = c.in_ok-link.ensures.linked }

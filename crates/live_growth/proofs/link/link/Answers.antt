@@ -17,7 +17,7 @@ use Rattle.live_reads.proofs.Views.{first_word}
 use Rattle.live_growth.proofs.Locks.{taken_by, holds_one, may_hold, draft_is}
 use Rattle.live_growth.proofs.Grips.{Grips, grip_frees, grip_freed}
 use Rattle.live_growth.proofs.Pairs.{Pair, pair_first, pair_second, first_draft, second_draft, pair_wrote, pair_frees, pair_freed}
-use Rattle.live_growth.proofs.Again.{pair_reclaimed, pair_filled, empty_again, again_grown}
+use Rattle.live_growth.proofs.Again.{pair_reclaimed, pair_filled, empty_again, again_names, again_grown}
 use Rattle.live_growth.proofs.Linked.{when_none, none_under, link_changes}
 use Rattle.live_growth.proofs.link.link.Given.{Over}
 use Rattle.live_growth.proofs.link.link.Goals as goal
@@ -255,3 +255,14 @@ returns-clause-told g c =
       grown,
       ap (λ (v : Seen). v.room) o.1 ∙ (ap (λ (v : Seen). v.room) l.1 ∙ room),
     )
+
+pub returns-clause-linked : goal.returns-clause-linked
+returns-clause-linked g c =
+    let u = (goal.at.returns-clause-linked g c).After-unlock_again in
+    let k = led g u in
+    let b = held_of g k in
+    let l = linked g u in
+    let at_r = (first_word (place_at (r_of g k)) c.unlock_again.new.seat.book c.in-Some-words_at.others.now (grip g u).are c.index-others-0.result c.index-others-0.result (sym c.index-others-0.is)).0 in
+    let o = grip_freed c.unlock_again.new.seat.view c.unlock_again.new.seat.book c.in-Some-words_at.others.now c.in-Some-reclaim.again (place_at (r_of g k)) (dr g k) (grip g u) c.index-others-0.result.key at_r StaysSame c.unlock.new.seat.view (c.in-Some-reclaim.again + 4) c.unlock.ensures.told in
+    again_names c.put.new.seat.view c.unlock_again.new.seat.view c.unlock.new.seat.view l.0 o.0 g.A.Asks.ask (cr g k) (r_of g k) (a_of g k) (ca g b) (hold (r_of g k).number (c.in-Some-reclaim.again + 2) (dr g k) ∷ []) c.args.key 1 c.args.spare
+    (wrote g k).placed_x (back g b).named c.requires.asks.0 c.requires.asks.1 (all_own g k) l.1 l.2 o.1 o.2

@@ -1,6 +1,6 @@
-use Rattle.std.proofs.Common.{rules, arith, ap, subst, false, Some, None, ◌≡◌, ◌≤◌, ◌∙◌}
+use Rattle.std.proofs.Common.{rules, arith, ap, subst, false, ℕ, Some, None, ◌≡◌, ◌≤◌, ◌∙◌}
 use Rattle.live_law.specs.Views.{View, ask}
-use Rattle.live_reads.specs.Paths.{Ended, Keeps}
+use Rattle.live_reads.specs.Paths.{IsOpen, Ended, Keeps}
 use Rattle.live_reads.specs.Sees.{Follows, IsNextOpen}
 use Rattle.live_reads.specs.declared.prefix_match.Next.{Next}
 use Rattle.live_reads.specs.declared.prefix_match.Next.TheVariants as nexts
@@ -33,7 +33,7 @@ returns-in_err-here c =
     let o = c.open.ensures.told in
     let w = c.open.new.seat.view in
     let out : c.from_residual-in_err-here.result ≡ None = search rules in
-    record { told = (o.0 ∙ r.0, o.1 ∙ r.1, keeps_then u c.root.new.seat.view w r.2 o.2, ap (λ (z : View). z.seen) o.3 ∙ r.3, when_out _ c.from_residual-in_err-here.result out) }
+    record { told = (o.0 ∙ r.0, o.1 ∙ r.1, keeps_then u c.root.new.seat.view w r.2 o.2, ap (λ (z : View). z.seen) o.3 ∙ r.3, when_out _ c.from_residual-in_err-here.result out); leaf = when_out _ c.from_residual-in_err-here.result out }
 
 pub loop-position-init : goal.loop-position-init
 loop-position-init c =
@@ -64,7 +64,7 @@ pub returns-in_err-step : goal.returns-in_err-step
 returns-in_err-step c =
     let k = (goal.at.returns-in_err-step c).After-step in
     let out : c.from_residual-in_err-step.result ≡ None = search rules in
-    record { told = (book k, id k, keeps k, c.in_err-step.ensures.none ∙ c.loop-position.invariant.seen, when_out _ c.from_residual-in_err-step.result out) }
+    record { told = (book k, id k, keeps k, c.in_err-step.ensures.none ∙ c.loop-position.invariant.seen, when_out _ c.from_residual-in_err-step.result out); leaf = when_out _ c.from_residual-in_err-step.result out }
 
 pub returns-in-Ends : goal.returns-in-Ends
 returns-in-Ends c =
@@ -72,7 +72,7 @@ returns-in-Ends c =
     let k = at.After-step in
     let f = follows at.In_ok-step nexts.Ends (search rules) in
     let kept = position_kept c.loop-position.seat.view c.step.new.seat.view c.args.key c.loop-position.position c.step.ensures.told.2 c.loop-position.invariant.position in
-    record { told = (book k, id k, keeps k, f ∙ c.loop-position.invariant.seen, (kept, tt)) }
+    record { told = (book k, id k, keeps k, f ∙ c.loop-position.invariant.seen, (kept, tt)); leaf = λ one. absurd (omega (arith, one, c.loop-position-test.true)) }
 
 pub loop-position-preserved : goal.loop-position-preserved
 loop-position-preserved c =
@@ -98,9 +98,12 @@ returns-in-Mismatches c =
     let f = follows at.In_ok-step (nexts.Mismatches c.in-Mismatches.mismatch) (search rules) in
     let tall : 2 ≤ c.loop-position.position.height = omega (arith, c.loop-position-test.true) in
     let kept = position_kept c.loop-position.seat.view c.step.new.seat.view c.args.key c.loop-position.position c.step.ensures.told.2 c.loop-position.invariant.position in
-    record { told = (book k, id k, keeps k, f.0 ∙ c.loop-position.invariant.seen, (kept, (tall, f.1))) }
+    record { told = (book k, id k, keeps k, f.0 ∙ c.loop-position.invariant.seen, (kept, (tall, f.1))); leaf = λ one. absurd (omega (arith, one, tall)) }
 
 pub returns : goal.returns
 returns c =
-    let i = c.loop-position.invariant in
-    record { told = (i.book, i.id, i.keeps, i.seen, (i.position, tt)) }
+    let l = c.loop-position in
+    let i = l.invariant in record {
+      told = (i.book, i.id, i.keeps, i.seen, (i.position, tt));
+      leaf = λ one. subst (λ (z : ℕ). IsOpen l.seat.view l.seat.book l.here.words.now l.here.taken l.position.name c.args.key z) one i.node;
+    }

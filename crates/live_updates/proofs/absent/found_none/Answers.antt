@@ -32,7 +32,7 @@ returns-in-Some-Absent-clause-absent c = λ _.
     let t = c.seek.ensures.told in
     let key = c.args.key in
     let absent : c.seek.result ≡ Some sites.Absent = search rules in
-    let answers = at_none (looked (goal.at.returns-in-Some-Absent-clause-absent c).After-seek) c.seek.result v w absent t.3 in
+    let answers = at_none (looked (goal.at.returns-in-Some-Absent-clause-absent c).After-seek) c.seek.new.seat.book c.seek.result v w absent t.3 in
     made_call c.args.guard.now c.seek.new.seat.book c.seek.new.seat.id v.client.seen w (λ x. got (ask x key 0 0) None) (λ x. refl) (t.0 ∙ i.book) (t.1 ∙ i.id) i.seen (answers_by c.loop.guard-inside.seat.id c.seek.new.seat.id key None v w (sym t.1) answers)
 
 pub invariant_of-guard-in-Some-At : goal.invariant_of-guard-in-Some-At
@@ -42,4 +42,4 @@ pub loop-preserved : goal.loop-preserved
 loop-preserved c =
     let a = (goal.at.loop-preserved c).After-seek in
     let i = c.loop.invariant in let t = c.seek.ensures.told in
-    record { book = t.0 ∙ i.book; id = t.1 ∙ i.id; seen = no_more (looked a) c.seek.result c.loop.guard-inside.seat.view c.seek.new.seat.view (search rules) t.3 ∙ i.seen; ready = ready a }
+    record { book = t.0 ∙ i.book; id = t.1 ∙ i.id; seen = no_more (looked a) c.seek.new.seat.book c.seek.result c.loop.guard-inside.seat.view c.seek.new.seat.view (search rules) t.3 ∙ i.seen; ready = ready a }

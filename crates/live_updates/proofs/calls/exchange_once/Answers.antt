@@ -30,7 +30,7 @@ ready g c = ready_kept c.args.seat.now.view c.seek.new.seat.view c.args.room.now
 by_value : (g : Over) (c : In-At g) → EndsBy (x g).caller (exchange_fails (x g) (Some c.in-At.value)) c.args.seat.now.view c.seek.new.seat.view
 by_value g c =
     let found : c.seek.result ≡ Some (sites.At c.in-At.leaf c.in-At.value) = search rules in
-    at_some (looked g) c.seek.result c.in-At.leaf c.in-At.value c.args.seat.now.view c.seek.new.seat.view found c.seek.ensures.told.3
+    at_some (looked g) c.seek.new.seat.book c.seek.result c.in-At.leaf c.in-At.value c.args.seat.now.view c.seek.new.seat.view found c.seek.ensures.told.3
 
 -- and has the expected value
 same : (g : Over) (c : After-exchange_here g) → c.seek.new.seat.view.client.seen ≡ c.args.seat.now.view.client.seen
@@ -45,7 +45,7 @@ pub returns-in_err-seek-clause-told : goal.returns-in_err-seek-clause-told
 returns-in_err-seek-clause-told g c =
     let t = c.seek.ensures.told in
     let out : c.from_residual.result ≡ None = search rules in
-    let no_value = no_more (looked g) c.seek.result c.args.seat.now.view c.seek.new.seat.view (search rules) t.3 in
+    let no_value = no_more (looked g) c.seek.new.seat.book c.seek.result c.args.seat.now.view c.seek.new.seat.view (search rules) t.3 in
     (t.0, t.1, ready g (goal.at.returns-in_err-seek-clause-told g c).After-seek, subst (λ z. EndsBy c.args.seat.now.id (option_map (swapped c.args.seat.now.id c.args.key c.args.old c.args.new) z) c.args.seat.now.view c.seek.new.seat.view) (sym out) no_value)
 
 pub returns-in-Absent-clause-told : goal.returns-in-Absent-clause-told
@@ -53,7 +53,7 @@ returns-in-Absent-clause-told g c =
     let t = c.seek.ensures.told in
     let v = c.args.seat.now.view in
     let w = c.seek.new.seat.view in
-    let failed = at_none (looked g) c.seek.result v w (search rules) t.3 in
+    let failed = at_none (looked g) c.seek.new.seat.book c.seek.result v w (search rules) t.3 in
     (t.0, t.1, ready g (goal.at.returns-in-Absent-clause-told g c).After-seek, fails_absent (x g) c.args.seat.now.id c.args.key c.args.old c.args.new c.requires.swap v w failed)
 
 pub returns-then-value-old-clause-told : goal.returns-then-value-old-clause-told

@@ -27,7 +27,7 @@ module _ (c : After-exchange_here) where
   same : c.seek.new.seat.view.client.seen ≡ c.args.seat.now.view.client.seen
   same =
       let found : c.seek.result ≡ Some (sites.At c.in-At.leaf c.in-At.value) = search rules in
-      at_some (looked (goal.at.After-exchange_here c).After-seek) c.seek.result c.in-At.leaf c.in-At.value c.args.seat.now.view c.seek.new.seat.view found c.seek.ensures.told.3
+      at_some (looked (goal.at.After-exchange_here c).After-seek) c.seek.new.seat.book c.seek.result c.in-At.leaf c.in-At.value c.args.seat.now.view c.seek.new.seat.view found c.seek.ensures.told.3
 
 pub seek-requires-clause-legal : goal.seek-requires-clause-legal
 seek-requires-clause-legal c = removal_lookup c.args.seat.now.id c.args.key
@@ -37,14 +37,14 @@ returns-in_err-seek c =
     let a = (goal.at.returns-in_err-seek c).After-seek in
     let t = c.seek.ensures.told in
     let out : c.from_residual.result ≡ None = search rules in
-    let no_value = no_more (looked a) c.seek.result c.args.seat.now.view c.seek.new.seat.view (search rules) t.3 in
+    let no_value = no_more (looked a) c.seek.new.seat.book c.seek.result c.args.seat.now.view c.seek.new.seat.view (search rules) t.3 in
     record { told = (t.0, t.1, ready a, subst (λ z. EndsBy c.args.seat.now.id (option_map (removed c.args.seat.now.id c.args.key) z) c.args.seat.now.view c.seek.new.seat.view) (sym out) no_value) }
 
 pub returns-in-Absent : goal.returns-in-Absent
 returns-in-Absent c =
     let a = (goal.at.returns-in-Absent c).After-seek in
     let t = c.seek.ensures.told in
-    record { told = (t.0, t.1, ready a, at_none (looked a) c.seek.result c.args.seat.now.view c.seek.new.seat.view (search rules) t.3) }
+    record { told = (t.0, t.1, ready a, at_none (looked a) c.seek.new.seat.book c.seek.result c.args.seat.now.view c.seek.new.seat.view (search rules) t.3) }
 
 pub exchange_here-requires-clause-ready : goal.exchange_here-requires-clause-ready
 exchange_here-requires-clause-ready c = ready (goal.at.exchange_here-requires-clause-ready c).After-seek

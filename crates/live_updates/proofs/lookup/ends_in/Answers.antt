@@ -1,11 +1,15 @@
 use Rattle.std.proofs.Common.{rules, arith, refl, sym, ap, subst, ◌/◌, ◌≡◌, ◌∙◌, Option, Some, None, ℕ}
+use Rattle.spec_node.specs.TableNode.{TableNode}
 use Rattle.spec_map.specs.Map.{lookup}
-use Rattle.live_layout.specs.Encodes.{words_of, IsBelow}
+use Rattle.live_layout.specs.Encodes.{words_of, IsBelow, Encodes, payload_of}
+use Rattle.live_nodes.specs.Nodes.{Content}
 use Rattle.live_nodes.specs.Seats.{Agree}
 use Rattle.live_nodes.specs.Rows.{last_saw}
-use Rattle.live_law.specs.Levels.{place_at}
+use Rattle.live_law.specs.Levels.{place_at, digit}
+use Rattle.live_updates.specs.inner.Lookups.{IsOpenWith}
+use Rattle.live_growth.proofs.Values.{value_found}
 use Rattle.live_reads.proofs.Views.{first_word, may_read_open}
-use Rattle.live_updates.proofs.Seeks.{IsEnd, HasRead, may_seek, seek_missed, seek_ends}
+use Rattle.live_updates.proofs.Seeks.{IsEnd, HasRead, may_seek, seek_missed, seek_ends, seek_open}
 use Rattle.live_updates.proofs.lookup.ends_in.Given.{Over}
 use Rattle.live_updates.proofs.lookup.ends_in.Goals as goal
 use Rattle.live_updates.proofs.lookup.ends_in.Goals.{After-index-words-0, After-check}
@@ -44,15 +48,25 @@ returns-then-not-check g c =
     let a = goal.at.returns-then-not-check g c in
     let told = c.check.ensures.told in
     let missed = seek_missed (has_read g a.After-index-words-0) c.check.new.seat.view told.0 told.2 (search rules) in
-    record { told = ((same g a.After-check).0, (same g a.After-check).1, missed.0, missed.1) }
+    record { told = ((same g a.After-check).0, (same g a.After-check).1, missed.0, missed.1); still = tt }
 
 pub returns : goal.returns
 returns g c =
     let a = goal.at.returns g c in
     let o = c.requires.open in
     let told = c.check.ensures.told in
+    let w = c.check.new.seat.view in
+    let read = has_read g a.After-index-words-0 in
+    let kept = λ (content : Content) (agrees : Agree content (last_saw c.find-found.new.seat.view.reads)). subst (λ z. Agree content (last_saw z)) o.opened.reads (c.find-found.ensures.kept content agrees) in
     let form = c.form_below-form.ensures o.names.spot.shape.key o.names.spot.shape.form o.names.named in
-    let ends = seek_ends (has_read g a.After-index-words-0) c.check.new.seat.view told.0 told.2 (search rules)
-    (λ content agrees. subst (λ z. Agree content (last_saw z)) o.opened.reads (c.find-found.ensures.kept content agrees)) c.find-found.result (in_leaf c.find-found.result)
-    (λ content n agrees encodes formed. subst (λ z. IsBelow (lookup n.children z) c.find-found.result) c.byte_at-byte.ensures (c.find-found.ensures.is content n agrees encodes (formed ∙ sym form))) in
-    record { told = ((same g a.After-check).0, (same g a.After-check).1, ends.0, ends.1) }
+    let below = λ (content : Content) (n : TableNode ℕ) (agrees : Agree content (last_saw c.find-found.new.seat.view.reads)) (encodes : Encodes content n) (formed : n.form ≡ o.names.spot.shape.form).
+    subst (λ z. IsBelow (lookup n.children z) c.find-found.result) c.byte_at-byte.ensures (c.find-found.ensures.is content n agrees encodes (formed ∙ sym form)) in
+    let ends = seek_ends read w told.0 told.2 (search rules) kept c.find-found.result (in_leaf c.find-found.result) below in
+    let here = c.args.here in
+    let still : IsOpenWith w c.args.seat.now.book here.words.now here.taken c.args.name c.args.key c.find-found.result = record {
+      node = seek_open read w told.0 told.2 (search rules) kept ends.0;
+      finds = λ content n agrees encodes formed deep.
+          value_found (lookup n.children (digit 1 c.args.key)) c.find-found.result (below content n agrees encodes formed)
+          (ap (λ z. payload_of (lookup n.children z)) (sym c.byte_at-byte.ensures) ∙ c.find-found.ensures.payload content n agrees encodes (formed ∙ sym form) deep);
+    } in
+    record { told = ((same g a.After-check).0, (same g a.After-check).1, ends.0, ends.1); still = subst (λ b. IsOpenWith w b here.words.now here.taken c.args.name c.args.key c.find-found.result) (sym (same g a.After-check).0) still }

@@ -1,128 +1,49 @@
-use Rattle.std.proofs.Common.{rules, arith, sym, ap, subst, false, ℕ, Some, None, ◌≡◌, ◌∙◌}
-use Rattle.live_law.specs.Views.{View, ask}
-use Rattle.live_reads.specs.Paths.{Names, Sights, IsOpen, Keeps, Ended}
-use Rattle.live_reads.specs.Sees.{Follows, IsNextOpen}
-use Rattle.live_reads.specs.declared.prefix_match.Next.{Next}
-use Rattle.live_reads.specs.declared.prefix_match.Next.TheVariants as nexts
-use Rattle.live_reads.proofs.Finds.{keeps_then, names_kept}
-use Rattle.live_reads.proofs.Sights.{sights_names, sights_kept, sure_root}
+use Rattle.std.proofs.Common.{rules, arith, sym, subst, Some, None, ◌≡◌, ◌∙◌}
+use Rattle.live_reads.specs.Paths.{Keeps}
+use Rattle.live_reads.specs.Positions.{KnowsPosition}
+use Rattle.live_reads.proofs.Finds.{keeps_then}
+use Rattle.live_reads.proofs.Stood.{position_kept}
+use Rattle.live_updates.specs.inner.Lookups.{IsLeafWith, IsOpenWith}
+use Rattle.live_growth.proofs.Ready.{some_by}
 use Rattle.live_updates.proofs.Seeks.{found_none, found_some, ends_later, sought_later, sought_none}
 use Rattle.live_updates.proofs.lookup.seek.Given.{Over}
 use Rattle.live_updates.proofs.lookup.seek.Goals as goal
-use Rattle.live_updates.proofs.lookup.seek.Goals.{After-open, After-step, In_ok-step, After-ends_in}
-
--- THE ROOT was opened
-module _ (g : Over) (c : After-open g) where
-  opened : (c.open.new.seat.book ≡ c.args.seat.now.book) × (c.open.new.seat.id ≡ c.args.seat.now.id) × Keeps c.args.seat.now.view c.open.new.seat.view
-  opened = let r = c.root.ensures.told in let o = c.open.ensures.told in (o.0 ∙ r.0, o.1 ∙ r.1, keeps_then c.args.seat.now.view c.root.new.seat.view c.open.new.seat.view r.2 o.2)
-
-  opened_seen : c.open.new.seat.view.client.seen ≡ c.args.seat.now.view.client.seen
-  opened_seen = ap (λ (z : View). z.seen) c.open.ensures.told.3 ∙ c.root.ensures.told.3
-
--- A NODE on the way was read
-stepped : (g : Over) (c : After-step g) → (c.step.new.seat.book ≡ c.args.seat.now.book) × (c.step.new.seat.id ≡ c.args.seat.now.id) × Keeps c.args.seat.now.view c.step.new.seat.view
-stepped g c = let i = c.loop-height.invariant in let t = c.step.ensures.told in (t.0 ∙ i.book, t.1 ∙ i.id, keeps_then c.args.seat.now.view c.loop-height.seat.view c.step.new.seat.view i.keeps t.2)
-
-sighted : (g : Over) (c : After-step g) → Sights c.step.new.seat.view c.loop-height.name
-sighted g c = sights_kept c.loop-height.seat.view c.step.new.seat.view c.step.ensures.told.2 c.loop-height.name (sights_names c.loop-height.seat.view c.loop-height.name c.args.key c.loop-height.height c.loop-height.invariant.node.names)
-
-follows : (g : Over) (c : In_ok-step g) (n : Next) → c.in_ok-step.step.next ≡ n → Follows (Ended false (ask c.loop-height.seat.id c.args.key 0 0) None) c.loop-height.seat.view c.step.new.seat.view c.args.key c.loop-height.height (Some n)
-follows g c n is = subst (λ z. Follows (Ended false (ask c.loop-height.seat.id c.args.key 0 0) None) c.loop-height.seat.view c.step.new.seat.view c.args.key c.loop-height.height (Some z)) is c.in_ok-step.ensures.next.0
+use Rattle.live_updates.proofs.lookup.seek.Goals.{In_ok-end, After-ends_in}
 
 -- A LEAF was read
 ended : (g : Over) (c : After-ends_in g) → (c.ends_in.new.seat.book ≡ c.args.seat.now.book) × (c.ends_in.new.seat.id ≡ c.args.seat.now.id) × Keeps c.args.seat.now.view c.ends_in.new.seat.view
-ended g c = let i = c.loop-height.invariant in let t = c.ends_in.ensures.told in (t.0 ∙ i.book, t.1 ∙ i.id, keeps_then c.args.seat.now.view c.loop-height.seat.view c.ends_in.new.seat.view i.keeps t.2)
+ended g c = let d = c.descend.ensures.told in let t = c.ends_in.ensures.told in (t.0 ∙ d.0, t.1 ∙ d.1, keeps_then c.args.seat.now.view c.descend.new.seat.view c.ends_in.new.seat.view d.2 t.2)
 
-pub returns-in_err-here : goal.returns-in_err-here
-returns-in_err-here g c =
-    let a = (goal.at.returns-in_err-here g c).After-open in
-    let o = opened g a in
-    let out : c.from_residual-in_err-here.result ≡ None = search rules in
-    record { told = (o.0, o.1, o.2, sought_none g.Q.Lookups.lookup c.from_residual-in_err-here.result c.args.seat.now.view c.open.new.seat.view out (opened_seen g a)) }
+knows : (g : Over) (c : In_ok-end g) → KnowsPosition c.descend.new.seat.view c.args.key c.in_ok-end.end.position
+knows g c = c.in_ok-end.ensures.told.4.0
 
-pub loop-height-init : goal.loop-height-init
-loop-height-init g c =
-    let a = (goal.at.loop-height-init g c).After-open in
-    let o = opened g a in
-    let v = c.root.new.seat.view in
-    let there = c.in_ok-here.ensures.opened in
-    let n = c.in_ok-name.ensures.told.4 in
-    let name = c.in_ok-name.name in
-    record {
-      book = o.0;
-      id = o.1;
-      keeps = o.2;
-      seen = opened_seen g a;
-      low = omega arith;
-      high = omega arith;
-      node = record {
-        names = names_kept v c.open.new.seat.view name c.args.key 8 c.open.ensures.told.2 n;
-        opened = there.1 (sights_names v name c.args.key 8 n);
-        free = there.0;
-        sure = sure_root n.spot (there.1 (sights_names v name c.args.key 8 n)).saw n.high;
-      };
-    }
+pub returns-in_err-end : goal.returns-in_err-end
+returns-in_err-end g c =
+    let t = c.descend.ensures.told in
+    record { told = (t.0, t.1, t.2, sought_none g.Q.Lookups.lookup c.descend.new.seat.book c.from_residual.result c.args.seat.now.view c.descend.new.seat.view c.from_residual.ensures t.3) }
 
-pub returns-in_err-step : goal.returns-in_err-step
-returns-in_err-step g c =
-    let s = stepped g (goal.at.returns-in_err-step g c).After-step in
-    let out : c.from_residual-in_err-step.result ≡ None = search rules in
-    record { told = (s.0, s.1, s.2, sought_none g.Q.Lookups.lookup c.from_residual-in_err-step.result c.args.seat.now.view c.step.new.seat.view out (c.in_err-step.ensures.none ∙ c.loop-height.invariant.seen)) }
-
-pub absent_at-requires-clause-sighted : goal.absent_at-requires-clause-sighted
-absent_at-requires-clause-sighted g c = sighted g (goal.at.absent_at-requires-clause-sighted g c).After-step
-
-pub returns-in-Ends : goal.returns-in-Ends
-returns-in-Ends g c =
-    let a = goal.at.returns-in-Ends g c in
-    let s = stepped g a.After-step in
+pub returns-in-Some : goal.returns-in-Some
+returns-in-Some g c =
     let u = c.args.seat.now.view in
-    let w = c.step.new.seat.view in
-    let y = c.absent_at.new.seat.view in
+    let v = c.descend.new.seat.view in
+    let w = c.absent_at.new.seat.view in
+    let d = c.descend.ensures.told in
     let e = c.absent_at.ensures.told in
-    record { told = (e.0 ∙ s.0, e.1 ∙ s.1, keeps_then u w y s.2 e.2, sought_later g.Q.Lookups.lookup c.absent_at.result u w y (follows g a.In_ok-step nexts.Ends (search rules) ∙ c.loop-height.invariant.seen) e.3) }
+    record { told = (e.0 ∙ d.0, e.1 ∙ d.1, keeps_then u v w d.2 e.2, sought_later g.Q.Lookups.lookup c.absent_at.new.seat.book c.absent_at.result u v w d.3 e.3) }
 
-pub loop-height-preserved : goal.loop-height-preserved
-loop-height-preserved g c =
-    let a = goal.at.loop-height-preserved g c in
-    let s = stepped g a.After-step in
-    let i = c.loop-height.invariant in
-    let is : c.in_ok-step.step.next ≡ nexts.Goes c.in-Goes.below c.in-Goes.lower = search rules in
-    let f = follows g a.In_ok-step (nexts.Goes c.in-Goes.below c.in-Goes.lower) is in
-    let here = c.in_ok-step.step.here in
-    record {
-      book = s.0;
-      id = s.1;
-      keeps = s.2;
-      seen = f.0 ∙ i.seen;
-      low = f.2;
-      high = (let o = i.high in let b = f.3 in omega (arith, o, b));
-      node = subst (λ z. IsNextOpen c.step.new.seat.view c.step.new.seat.book here.words.now here.taken c.args.key z) is c.in_ok-step.ensures.next.1;
-    }
-
-pub absent_at-requires-in-Mismatches-clause-sighted : goal.absent_at-requires-in-Mismatches-clause-sighted
-absent_at-requires-in-Mismatches-clause-sighted g c = sighted g (goal.at.absent_at-requires-in-Mismatches-clause-sighted g c).After-step
-
-pub absent_at-requires-in-Mismatches-clause-below : goal.absent_at-requires-in-Mismatches-clause-below
-absent_at-requires-in-Mismatches-clause-below g c = (follows g (goal.at.absent_at-requires-in-Mismatches-clause-below g c).In_ok-step (nexts.Mismatches c.in-Mismatches.mismatch) (search rules)).1.sighted
-
-pub returns-in-Mismatches : goal.returns-in-Mismatches
-returns-in-Mismatches g c =
-    let a = goal.at.returns-in-Mismatches g c in
-    let s = stepped g a.After-step in
+pub returns-then-height-gt1 : goal.returns-then-height-gt1
+returns-then-height-gt1 g c =
     let u = c.args.seat.now.view in
-    let w = c.step.new.seat.view in
-    let f = follows g a.In_ok-step (nexts.Mismatches c.in-Mismatches.mismatch) (search rules) in
-    let y = c.absent_at-in-Mismatches.new.seat.view in
-    let e = c.absent_at-in-Mismatches.ensures.told in
-    record { told = (e.0 ∙ s.0, e.1 ∙ s.1, keeps_then u w y s.2 e.2, sought_later g.Q.Lookups.lookup c.absent_at-in-Mismatches.result u w y (f.0 ∙ c.loop-height.invariant.seen) e.3) }
+    let v = c.descend.new.seat.view in
+    let w = c.absent_at-then-height-gt1.new.seat.view in
+    let d = c.descend.ensures.told in
+    let e = c.absent_at-then-height-gt1.ensures.told in
+    record { told = (e.0 ∙ d.0, e.1 ∙ d.1, keeps_then u v w d.2 e.2, sought_later g.Q.Lookups.lookup c.absent_at-then-height-gt1.new.seat.book c.absent_at-then-height-gt1.result u v w d.3 e.3) }
 
 pub ends_in-requires-clause-open : goal.ends_in-requires-clause-open
 ends_in-requires-clause-open g c =
-    let l = c.loop-height in
-    let low = l.invariant.low in
-    let one : l.height ≡ 1 = omega (arith, low, c.loop-height-test.false) in
-    subst (λ (z : ℕ). IsOpen l.seat.view l.seat.book l.here.words.now l.here.taken l.name c.args.key z) one l.invariant.node
+    let low = c.in_ok-end.ensures.told.4.0.low in
+    c.in_ok-end.ensures.leaf (omega (arith, low, c.if-height-gt1.false))
 
 pub returns-in_err-value : goal.returns-in_err-value
 returns-in_err-value g c =
@@ -131,28 +52,30 @@ returns-in_err-value g c =
     let l = g.Q.Lookups.lookup in
     let none : c.ends_in.result ≡ None = search rules in
     let out : c.from_residual-in_err-value.result ≡ None = search rules in
-    let same = found_none l c.ends_in.result c.loop-height.seat.view w c.ends_in.ensures.told.3 none in
-    record { told = (s.0, s.1, s.2, sought_none l c.from_residual-in_err-value.result c.args.seat.now.view w out (same ∙ c.loop-height.invariant.seen)) }
+    let same = found_none l c.ends_in.result c.descend.new.seat.view w c.ends_in.ensures.told.3 none in
+    record { told = (s.0, s.1, s.2, sought_none l c.ends_in.new.seat.book c.from_residual-in_err-value.result c.args.seat.now.view w out (same ∙ c.descend.ensures.told.3)) }
 
-pub returns-in-Some : goal.returns-in-Some
-returns-in-Some g c =
-    let s = ended g (goal.at.returns-in-Some g c).After-ends_in in
-    let i = c.loop-height.invariant in
-    let v = c.loop-height.seat.view in
+pub returns-in-Some-2 : goal.returns-in-Some-2
+returns-in-Some-2 g c =
+    let a = goal.at.returns-in-Some-2 g c in
+    let s = ended g a.After-ends_in in
+    let v = c.descend.new.seat.view in
     let w = c.ends_in.new.seat.view in
     let t = c.ends_in.ensures.told in
     let l = g.Q.Lookups.lookup in
-    let low = i.low in
-    let one : c.loop-height.height ≡ 1 = omega (arith, c.loop-height-test.false, low) in
-    let found = found_some l c.ends_in.result (Some c.in-Some.value) v w t.3 (search rules) in
-    let names = names_kept v w c.loop-height.name c.args.key 1 t.2 (subst (λ z. Names v c.loop-height.name c.args.key z) one i.node.names) in
-    record { told = (s.0, s.1, s.2, (ends_later l.caller (l.entry (Some c.in-Some.value)) c.args.seat.now.view v w i.seen found, subst (λ k. Names w c.loop-height.name k 1) (sym c.requires.asks.0) names)) }
+    let end = c.in_ok-end.end in
+    let found = found_some l c.ends_in.result (Some c.in-Some-2.value) v w t.3 (search rules) in
+    let position = position_kept v w c.args.key end.position t.2 (knows g a.In_ok-end) in
+    let still = IsOpenWith w c.ends_in.new.seat.book end.here.words.now end.here.taken end.position.name c.args.key in
+    let with = some_by c.ends_in.result (Some c.in-Some-2.value) (search rules) still c.ends_in.ensures.still in
+    let leaf = subst (λ k. IsLeafWith w c.ends_in.new.seat.book k end (Some c.in-Some-2.value)) (sym c.requires.asks.0) (position, with) in
+    record { told = (s.0, s.1, s.2, (ends_later l.caller (l.entry (Some c.in-Some-2.value)) c.args.seat.now.view v w c.descend.ensures.told.3 found, leaf)) }
 
 pub returns-in-None : goal.returns-in-None
 returns-in-None g c =
     let s = ended g (goal.at.returns-in-None g c).After-ends_in in
-    let v = c.loop-height.seat.view in
+    let v = c.descend.new.seat.view in
     let w = c.ends_in.new.seat.view in
     let l = g.Q.Lookups.lookup in
     let found = found_some l c.ends_in.result None v w c.ends_in.ensures.told.3 (search rules) in
-    record { told = (s.0, s.1, s.2, ends_later l.caller (l.entry None) c.args.seat.now.view v w c.loop-height.invariant.seen found) }
+    record { told = (s.0, s.1, s.2, ends_later l.caller (l.entry None) c.args.seat.now.view v w c.descend.ensures.told.3 found) }

@@ -1,5 +1,4 @@
 use Rattle.std.proofs.Common.{rules, subst, Option, None, Some, ◌≡◌, ◌∙◌}
-use Rattle.live_reads.specs.Paths.{Names}
 use Rattle.live_growth.specs.Calls.{IsReady}
 use Rattle.live_growth.proofs.Ready.{ready_rest}
 use Rattle.live_growth.proofs.StoodOn.{position_rest}
@@ -17,9 +16,6 @@ module _ (g : Over) (c : After-update_here g) where
 
   updated : (o : Option Missed) → c.update_here.result ≡ o → Updated g.U.Updates.update o c.args.seat.now.view c.update_here.new.seat.view
   updated o is = subst (λ z. Updated g.U.Updates.update z c.args.seat.now.view c.update_here.new.seat.view) is c.update_here.ensures.told.3
-
-pub update_here-requires-clause-named : goal.update_here-requires-clause-named
-update_here-requires-clause-named g c = subst (λ h. Names c.args.seat.now.view c.args.position.name c.args.key h) c.requires.leaf c.requires.position.named
 
 pub returns-in-None : goal.returns-in-None
 returns-in-None g c =
@@ -40,7 +36,7 @@ pub enlarge-lacks-requires-clause-ready : goal.enlarge-lacks-requires-clause-rea
 enlarge-lacks-requires-clause-ready g c = ready g (goal.at.enlarge-lacks-requires-clause-ready g c).After-update_here
 
 pub enlarge-lacks-requires-clause-position : goal.enlarge-lacks-requires-clause-position
-enlarge-lacks-requires-clause-position g c = position_rest c.args.seat.now.view c.update_here.new.seat.view c.args.key c.args.position c.update_here.ensures.told.2 c.requires.position
+enlarge-lacks-requires-clause-position g c = position_rest c.args.seat.now.view c.update_here.new.seat.view c.args.key c.args.leaf.position c.update_here.ensures.told.2 c.requires.leaf.0
 
 pub returns-in-Some-Full : goal.returns-in-Some-Full
 returns-in-Some-Full g c =

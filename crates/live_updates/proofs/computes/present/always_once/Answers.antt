@@ -30,7 +30,7 @@ module _ (g : Over) (c : After-update_here g) where
   same : c.seek.new.seat.view.client.seen ≡ c.args.seat.now.view.client.seen
   same =
       let found : c.seek.result ≡ Some (sites.At c.in-Some-At.leaf c.in-Some-At.value) = search rules in
-      at_some (looked g (goal.at.After-update_here g c).After-seek) c.seek.result c.in-Some-At.leaf c.in-Some-At.value c.args.seat.now.view c.seek.new.seat.view found c.seek.ensures.told.3
+      at_some (looked g (goal.at.After-update_here g c).After-seek) c.seek.new.seat.book c.seek.result c.in-Some-At.leaf c.in-Some-At.value c.args.seat.now.view c.seek.new.seat.view found c.seek.ensures.told.3
 
   ready_then : IsReady c.update_here.new.seat.view c.args.room.now
   ready_then = ready_rest c.seek.new.seat.view c.update_here.new.seat.view c.args.room.now (ready g (goal.at.After-update_here g c).After-seek) c.update_here.ensures.told.2
@@ -94,4 +94,4 @@ pub returns-in-None-clause-told : goal.returns-in-None-clause-told
 returns-in-None-clause-told g c =
     let a = (goal.at.returns-in-None-clause-told g c).After-seek in
     let t = c.seek.ensures.told in
-    (t.0, t.1, ready g a, no_more (looked g a) c.seek.result c.args.seat.now.view c.seek.new.seat.view (search rules) t.3)
+    (t.0, t.1, ready g a, no_more (looked g a) c.seek.new.seat.book c.seek.result c.args.seat.now.view c.seek.new.seat.view (search rules) t.3)

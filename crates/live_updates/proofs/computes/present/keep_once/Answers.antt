@@ -25,7 +25,7 @@ returns-in-Some-At g c =
     let a = (goal.at.returns-in-Some-At g c).After-seek in
     let t = c.seek.ensures.told in
     let found = c.in-Some-At.found in
-    record { told = (t.0, t.1, ready g a, (found, at_some (looked g a) c.seek.result c.in-Some-At._leaf found c.args.seat.now.view c.seek.new.seat.view (search rules) t.3, refl)) }
+    record { told = (t.0, t.1, ready g a, (found, at_some (looked g a) c.seek.new.seat.book c.seek.result c.in-Some-At._leaf found c.args.seat.now.view c.seek.new.seat.view (search rules) t.3, refl)) }
 
 pub enter-requires-clause-legal : goal.enter-requires-clause-legal
 enter-requires-clause-legal g c = always_update c.seek.new.seat.id c.args.key None c.args.value
@@ -37,4 +37,4 @@ pub returns-in-None : goal.returns-in-None
 returns-in-None g c =
     let a = (goal.at.returns-in-None g c).After-seek in
     let t = c.seek.ensures.told in
-    record { told = (t.0, t.1, ready g a, no_more (looked g a) c.seek.result c.args.seat.now.view c.seek.new.seat.view (search rules) t.3) }
+    record { told = (t.0, t.1, ready g a, no_more (looked g a) c.seek.new.seat.book c.seek.result c.args.seat.now.view c.seek.new.seat.view (search rules) t.3) }

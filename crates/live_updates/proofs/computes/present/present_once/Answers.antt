@@ -31,7 +31,7 @@ module _ (g : Over) (c : After-exchange_here g) where
   same : c.seek.new.seat.view.client.seen ≡ c.args.seat.now.view.client.seen
   same =
       let found : c.seek.result ≡ Some (sites.At c.in-At.leaf c.in-At.value) = search rules in
-      at_some (looked g (goal.at.After-exchange_here g c).After-seek) c.seek.result c.in-At.leaf c.in-At.value c.args.seat.now.view c.seek.new.seat.view found c.seek.ensures.told.3
+      at_some (looked g (goal.at.After-exchange_here g c).After-seek) c.seek.new.seat.book c.seek.result c.in-At.leaf c.in-At.value c.args.seat.now.view c.seek.new.seat.view found c.seek.ensures.told.3
 
   reached : Reaches (goal.F-step g) c.args.f.now c.f-new.new.self
   reached = call_on (goal.F-step g) c.args.f.now c.args.f.now c.f-new.new.self c.in-At.value c.f-new.result (no_call (goal.F-step g) c.args.f.now) c.f-new.ensures
@@ -47,7 +47,7 @@ returns-in_err-seek-clause-told g c =
     let a = (goal.at.returns-in_err-seek-clause-told g c).After-seek in
     let t = c.seek.ensures.told in
     let out : c.from_residual.result ≡ None = search rules in
-    let no_value = no_more (looked g a) c.seek.result c.args.seat.now.view c.seek.new.seat.view (search rules) t.3 in
+    let no_value = no_more (looked g a) c.seek.new.seat.book c.seek.result c.args.seat.now.view c.seek.new.seat.view (search rules) t.3 in
     (t.0, t.1, ready g a, subst (λ z. EndsBy c.args.seat.now.id (option_map (computed_with c.args.seat.now.id c.args.key) z) c.args.seat.now.view c.seek.new.seat.view) (sym out) no_value)
 
 pub returns-in-Absent-clause-reached : goal.returns-in-Absent-clause-reached
@@ -57,7 +57,7 @@ pub returns-in-Absent-clause-told : goal.returns-in-Absent-clause-told
 returns-in-Absent-clause-told g c =
     let a = (goal.at.returns-in-Absent-clause-told g c).After-seek in
     let t = c.seek.ensures.told in
-    (t.0, t.1, ready g a, at_none (looked g a) c.seek.result c.args.seat.now.view c.seek.new.seat.view (search rules) t.3)
+    (t.0, t.1, ready g a, at_none (looked g a) c.seek.new.seat.book c.seek.result c.args.seat.now.view c.seek.new.seat.view (search rules) t.3)
 
 pub exchange_here-requires-clause-ready : goal.exchange_here-requires-clause-ready
 exchange_here-requires-clause-ready g c = ready g (goal.at.exchange_here-requires-clause-ready g c).After-seek
