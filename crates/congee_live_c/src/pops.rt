@@ -6,14 +6,14 @@
 //! Tested in `tools/c-library`.
 
 ghost use Rattle.std.specs.Prelude.{◌≡◌, ◌≢◌, ◌⊎◌, ◌+◌, ◌^◌, true, false, None, Some, pos};
-ghost use Rattle.live_pops.specs.Pops.{HasMissed, HasPopped};
+ghost use Rattle.live_pool.specs.Pops.{HasMissed, HasPopped};
 ghost use Rattle.congee_live_c.specs.Answer.{busy};
 ghost use Rattle.congee_live_c.specs.Pairs.{pair_of};
 
 use crate::Pair;
 use crate::handle::Handle;
 use crate::next_pair::answer_pair;
-use live_pops::pops::pop;
+use live_pool::pops::pop;
 
 /// Removes the pair with the least key, if that is at most this one. Writes the pair to `pair` and answers 1, or answers 0 where
 /// there is none, or `BUSY`. Needs no memory.

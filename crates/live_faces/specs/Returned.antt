@@ -10,7 +10,7 @@ use Rattle.live_scans.specs.Scans.{HasNext}
 use Rattle.live_scans.specs.Floors.{HasBefore}
 use Rattle.live_updates.specs.Closures.{EndsWithCall}
 use Rattle.live_updates.specs.ClosureEntries.{inserted_with}
-use Rattle.live_pops.specs.Pops.{HasPopped}
+use Rattle.live_pool.specs.Pops.{HasPopped}
 use Rattle.live_copies.specs.Copies.{HasCopied}
 
 -- A CALL, by a guard that knew k

@@ -1,13 +1,13 @@
 //! Owners come back.
 ghost use Rattle.std.specs.Prelude.{◌≡◌, ◌⊎◌, ℕ, ◌^◌, true, false, None, Some, IfOk, IfSome, IfNone, OnErr};
-ghost use Rattle.live_pops.specs.Pops.{HasMissed, HasPopped};
+ghost use Rattle.live_pool.specs.Pops.{HasMissed, HasPopped};
 ghost use Rattle.word_owners.specs.Known.{Keeps};
 ghost use Rattle.live_owners.specs.Owners.{IsHandleOf, KnowsMore, ComesBack, NoneComesBack};
 
 use crate::handle::OwnersHandle;
 use crate::map::LiveOwners;
 use live_growth::map::Busy;
-use live_pops::pops::pop;
+use live_pool::pops::pop;
 
 impl LiveOwners {
     /// A ticket that left the map and whose owner nobody has lent, with that owner, which is the caller's from then on. Each owner

@@ -6,7 +6,7 @@ use Rattle.live_updates.specs.Entries.{swapped}
 use Rattle.live_updates.specs.ClosureEntries.{inserted_with}
 use Rattle.live_scans.specs.Scans.{GaveUp, HasNext}
 use Rattle.live_scans.specs.Floors.{HasBefore}
-use Rattle.live_pops.specs.Pops.{HasPopped}
+use Rattle.live_pool.specs.Pops.{HasPopped}
 use Rattle.live_slots.specs.declared.log.LogEntry.{LogEntry}
 use Rattle.live_slots.specs.Tickets.{HasIssued, IsNew, Loan}
 use Rattle.live_payloads.specs.Payloads.{PayloadsKnown, IsPayloadOf, IsLoan, FindsPayload}

@@ -1,3 +1,6 @@
 pub mod Successions
 pub mod Pools
 pub mod FreeLists
+pub mod Pops
+pub mod Removals
+pub mod Retains

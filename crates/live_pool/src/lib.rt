@@ -7,14 +7,23 @@
 //! looks for one among those before it asks for memory (`supply`). Where a writer is busy at a node that a removal would take out,
 //! a later call takes it out. So a map that changes for ever has few more nodes than it needs.
 //!
-//! Tested in `test_live_calls`.
+//! A pop searches the pair, and then removes it if its value is still the one found. So each pair goes to one caller. Each key
+//! that the search passed was absent at a moment of the call. A key that another thread inserts there meanwhile stays (`pops`). A
+//! `retain` reads pages, asks a closure about each pair, and removes a pair with the value that it was asked about.
+//!
+//! Tested in `test_live_calls`, and pops in `test_live_faces`.
 #![tactic(auto)]
 
 pub mod calls;
 mod cleanup_queue;
+mod ends;
 pub mod free_list;
 pub mod pool;
+pub mod pops;
+pub mod removals;
+pub mod retains;
 mod slot;
 pub mod succession;
 mod supply;
 pub mod upkeep;
+pub mod waits;

@@ -6,11 +6,11 @@ use crate::cleanup_queue;
 use crate::free_list::{FreeList, add_to};
 use crate::pool::{FORMS, Pool, STRIPES};
 use counted_slot::{Counted, FREE};
-use live_detach::tidy::tidy;
 use live_growth::link::Room;
 use live_growth::map::{Guard, Refusal};
 use live_layout::form::{form_below, place_of};
 use live_updates::absent::found_none;
+use live_updates::tidy::tidy;
 use node_base::base_node::NodeType;
 use std::hint::spin_loop;
 

@@ -18,7 +18,7 @@ use Rattle.live_law.proofs.Looks.{at_leaf}
 use Rattle.live_law.proofs.Plans.{joined}
 use Rattle.live_law.proofs.Writes.{current_at, its_own, home_locked, freed, goes_by}
 use Rattle.live_growth.proofs.Values.{value_once}
-use Rattle.live_detach.proofs.Ordered.{encodes_rise}
+use Rattle.live_updates.proofs.Ordered.{encodes_rise}
 use Rattle.live_updates.specs.inner.Updates.{Update, IsUpdate, child_for, Writes}
 use Rattle.live_updates.proofs.Rising.{Ascends, history_ascends, lookup-same, lookup-other}
 

@@ -8,3 +8,7 @@ pub mod Made
 pub mod Reached
 pub mod Called
 pub mod Tries
+pub mod Ordered
+pub mod Unlinks
+pub mod Twos
+pub mod Threes

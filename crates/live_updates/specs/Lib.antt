@@ -3,3 +3,6 @@ pub mod Refusals
 pub mod Closures
 pub mod ClosureEntries
 pub mod inner
+pub mod Unlinks
+pub mod Two
+pub mod Three

@@ -9,8 +9,8 @@ ghost use Rattle.live_growth.specs.Calls.{IsReady};
 ghost use Rattle.live_updates.specs.inner.Lookups.{IsLeafWith};
 ghost use Rattle.live_updates.specs.inner.Updates.{HasExpected, IsUpdate, IsSet, Updated, missed_by};
 
-use live_detach::shrink_node::{Fill, fill_of, shrink_on_path};
-use live_detach::tidy::tidy_from;
+use crate::shrink_node::{Fill, fill_of, shrink_on_path};
+use crate::tidy::tidy_from;
 use live_growth::held::{lock_open, unlock_same};
 use live_growth::link::Room;
 use live_law::law::{MapLaw, MapView};

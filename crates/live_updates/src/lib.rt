@@ -5,11 +5,19 @@
 //!
 //! Calls that store what a closure returns, and insertions where a key is absent, are in `computes`.
 //!
+//! A removal may leave a leaf without keys. The leaf is taken out of the node above it then, and that one in its turn (`tidy`,
+//! `detach`). The first node that is left with few children is replaced by a smaller one (`shrink_node`). Nobody uses a node any more
+//! that was taken out or replaced, so it may be used again.
+//!
 //! Tested in `test_live_calls`.
 #![tactic(auto)]
 
 pub mod absent;
 pub mod calls;
 pub mod computes;
+pub mod detach;
+pub mod law;
 pub mod leaf;
 pub mod lookup;
+pub mod shrink_node;
+pub mod tidy;

@@ -3,7 +3,7 @@
 //! Tested in `tools/c-library`.
 
 ghost use Rattle.std.specs.Prelude.{◌≡◌, ◌≢◌, ◌⊎◌, ℕ, ◌^◌, true, None, Some, pos};
-ghost use Rattle.live_pops.specs.Pops.{HasPopped};
+ghost use Rattle.live_pool.specs.Pops.{HasPopped};
 ghost use Rattle.live_owners.specs.Owners.{KnowsMore, ComesBack, NoneComesBack};
 ghost use Rattle.congee_live_c.specs.Answer.{busy};
 

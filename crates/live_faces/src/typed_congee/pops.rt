@@ -6,13 +6,13 @@
 //!
 //! Tested in `test_live_faces`.
 ghost use Rattle.std.specs.Prelude.{◌≡◌, ◌+◌, ◌^◌, true, false, IfOk, OnErr};
-ghost use Rattle.live_pops.specs.Pops.{HasMissed};
+ghost use Rattle.live_pool.specs.Pops.{HasMissed};
 ghost use Rattle.live_faces.specs.Returned.{ReturnsPopped, pair_of};
 
 use super::scans::pair_back;
 use super::{Busy, Congee, Guard};
-use live_pops::pops;
-use live_pops::waits::popped;
+use live_pool::pops;
+use live_pool::waits::popped;
 use spec_map::traits::Word;
 use std::sync::Wait;
 

@@ -5,10 +5,10 @@
 //!
 //! Tested in `test_live_faces`.
 ghost use Rattle.std.specs.Prelude.{◌≡◌, ℕ, ◌+◌, ◌^◌};
-ghost use Rattle.live_pops.specs.Removals.{HasEmptied};
+ghost use Rattle.live_pool.specs.Removals.{HasEmptied};
 
 use super::{Congee, Guard};
-use live_pops::removals;
+use live_pool::removals;
 use spec_map::traits::Word;
 use std::sync::Wait;
 

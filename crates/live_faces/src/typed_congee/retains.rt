@@ -5,10 +5,10 @@
 //!
 //! Tested in `test_live_faces`.
 ghost use Rattle.std.specs.Prelude.{◌≡◌, ℕ, ◌^◌};
-ghost use Rattle.live_pops.specs.Retains.{HasRetained};
+ghost use Rattle.live_pool.specs.Retains.{HasRetained};
 
 use super::{Congee, Guard};
-use live_pops::retains;
+use live_pool::retains;
 use spec_map::traits::Word;
 use std::sync::Wait;
 

@@ -7,7 +7,7 @@ ghost use Rattle.live_payloads.specs.Tries.{PopsPayload};
 
 use super::PayloadCongee;
 use crate::guard::PayloadGuard;
-use live_pops::waits::popped;
+use live_pool::waits::popped;
 use live_slots::lent::Lent;
 use spec_map::traits::Word;
 use std::sync::Wait;

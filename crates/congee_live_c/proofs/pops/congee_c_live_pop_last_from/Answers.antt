@@ -1,5 +1,5 @@
 use Rattle.std.proofs.Common.{rules, arith, pos, ◌≡◌, IfOk, subst, false, ◌^◌}
-use Rattle.live_pops.specs.Pops.{HasPopped}
+use Rattle.live_pool.specs.Pops.{HasPopped}
 use Rattle.std.proofs.lemmas.Grind.{common_steps}
 use Rattle.congee_live_c.proofs.pops.congee_c_live_pop_last_from.Goals as goal
 

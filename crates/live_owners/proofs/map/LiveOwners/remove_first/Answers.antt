@@ -1,6 +1,6 @@
 use Rattle.std.proofs.Common.{◌^◌, true, Some, sym, subst, rules}
 use Rattle.live_law.specs.Known.{Known}
-use Rattle.live_pops.specs.Pops.{HasPopped}
+use Rattle.live_pool.specs.Pops.{HasPopped}
 use Rattle.live_owners.proofs.map.LiveOwners.remove_first.Goals as goal
 
 pub returns-in-Some-clause-removed : goal.returns-in-Some-clause-removed

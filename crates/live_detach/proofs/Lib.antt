@@ -1,4 +1,0 @@
-pub mod Ordered
-pub mod Unlinks
-pub mod Twos
-pub mod Threes

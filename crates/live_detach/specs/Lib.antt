@@ -1,3 +1,0 @@
-pub mod Unlinks
-pub mod Two
-pub mod Three

@@ -1,4 +1,0 @@
-pub mod Within
-pub mod Missed
-pub mod Emptied
-pub mod Judged

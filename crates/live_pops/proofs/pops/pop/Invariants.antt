@@ -1,6 +1,0 @@
-use Rattle.std.proofs.Common.{◌+◌}
-use Rattle.live_pops.specs.Pops.{HasMissed}
-use Rattle.live_pops.proofs.pops.pop.Given as goal
-
-abbrev pub invariant-loop : goal.invariant-loop
-invariant-loop l = HasMissed l.up l.low (l.last + 1) l.fn.guard l.guard

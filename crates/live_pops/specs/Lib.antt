@@ -1,3 +1,0 @@
-pub mod Pops
-pub mod Removals
-pub mod Retains
