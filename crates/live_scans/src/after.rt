@@ -37,6 +37,7 @@ fn more_lanes(word: u64, byte: u8) -> u64
 }
 
 // The least byte of a word that is at least this one, from one place on and below another, with its place.
+#[inline(always)]
 fn least_lane(word: u64, from: usize, to: usize, least: u8) -> Option<(u8, usize)>
     requires { (from ≤ to) × (to ≤ 8) }
     ensures { IsLeast (lane word) from to least result }
@@ -81,6 +82,7 @@ fn placed(found: Option<(u8, usize)>, w: usize) -> Option<(u8, usize)>
 }
 
 // The first key of a list from this one on, and its place.
+#[inline(always)]
 fn first_place<S, R: ReadWords<S>>(
     cells: &R,
     room: usize,
@@ -106,6 +108,7 @@ fn first_place<S, R: ReadWords<S>>(
 }
 
 /// The first child from a byte on of a node of this form: its byte and its word.
+#[inline(always)]
 pub fn child_after<S, R: ReadWords<S>>(
     cells: &R,
     form: NodeType,
@@ -125,6 +128,7 @@ pub fn child_after<S, R: ReadWords<S>>(
 }
 
 // The first child from a byte on of a node that is a list. Its place is inside, which is tested rather than proved.
+#[inline(always)]
 fn list_after<S, R: ReadWords<S>>(
     cells: &R,
     form: NodeType,

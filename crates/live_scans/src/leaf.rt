@@ -18,6 +18,7 @@ use live_reads::prefix_match::enter;
 
 /// Writes a part of a leaf that is open into a buffer, from a place there on, upwards (`true`) or downwards. `None` where a writer
 /// came in between.
+#[inline(always)]
 pub fn read_leaf<A: Asks, P: RangeEntry>(
     leaf: Opened<'_>,
     name: u64,

@@ -57,6 +57,7 @@ pub enum Visit {
 }
 
 /// A node that a key has come to is open, and its nearest child read. `None` where a writer came in between.
+#[inline(always)]
 fn open_near<'a>(at: Position, known: NodeWords<'a>, seat: &mut Seat) -> Option<Near<'a>>
     requires known { HasWords seat.old.view seat.old.book at known.words.now known.head }
     requires height { (2 ≤ at.height) × (at.height ≤ 8) }
@@ -74,6 +75,7 @@ fn open_near<'a>(at: Position, known: NodeWords<'a>, seat: &mut Seat) -> Option<
 }
 
 /// Meets the nearest child of an open node, which has a key under the same byte. `false` where a writer came in between.
+#[inline(always)]
 fn meet_under<A: Asks>(
     here: Opened<'_>,
     at: Position,
@@ -100,6 +102,7 @@ fn meet_under<A: Asks>(
 }
 
 /// Opens a child of an open node, and watches it there. `None` where a writer came in between.
+#[inline(always)]
 fn watch_next<'a, N: Above>(
     nodes: &'a Nodes,
     here: Opened<'_>,
@@ -146,6 +149,7 @@ fn watch_next<'a, N: Above>(
 }
 
 /// Whether an open node is what it was. So no other keys are there, up to a child's byte, than those of the child.
+#[inline(always)]
 pub fn is_still<A: Asks>(
     here: Opened<'_>,
     at: Position,

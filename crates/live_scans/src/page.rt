@@ -137,6 +137,7 @@ fn step_down<'a, A: Asks, P: RangeEntry>(
 
 // One step from a key on: a part of a leaf is written into the buffer, or keys are passed that are absent. `None` where a writer
 // came in between.
+#[inline(always)]
 fn try_step<'a, P: RangeEntry>(
     nodes: &'a Nodes,
     trail: Option<Trail<'a>>,

@@ -39,6 +39,7 @@ pub struct Trail<'a> {
 }
 
 /// The words of a node on a reader's path, and its head. `None` where a writer came in between.
+#[inline(always)]
 pub fn know<'a>(nodes: &'a Nodes, path_node: PathNode<'a>, seat: &mut Seat) -> Option<NodeWords<'a>>
     requires book { seat.old.book ≡ nodes.now }
     requires path_node { IsPathNode seat.old.view seat.old.book path_node }
@@ -66,6 +67,7 @@ pub fn know<'a>(nodes: &'a Nodes, path_node: PathNode<'a>, seat: &mut Seat) -> O
 }
 
 /// Opens a node whose words are known, if it has the same head. `None` where a writer is busy there, or changed it.
+#[inline(always)]
 pub fn open_known<'a>(at: Position, known: NodeWords<'a>, seat: &mut Seat) -> Option<Opened<'a>>
     requires known { HasWords seat.old.view seat.old.book at known.words.now known.head }
     ensures book { seat.new.book ≡ seat.old.book }

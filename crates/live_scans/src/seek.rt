@@ -79,6 +79,7 @@ pub fn seek_down<A: Asks>(nodes: &Nodes, position: Position, seat: &mut Seat) ->
 }
 
 // This node with another key, if the key begins like it.
+#[inline(always)]
 fn with_key<'a>(path_node: PathNode<'a>, key: u64) -> Option<PathNode<'a>>
     requires height { path_node.at.height ≤ 8 }
     ensures with { IfSome result (λ s. (s.at.key ≡ key) × (s.at.name ≡ path_node.entry.at.name)
@@ -99,6 +100,7 @@ fn with_key<'a>(path_node: PathNode<'a>, key: u64) -> Option<PathNode<'a>>
 
 /// The trail of a key: from the lower node of this one on, if the key begins like it, or from the upper one on, or from the root on.
 /// `None` where a writer came in between.
+#[inline(always)]
 pub fn begin<'a>(
     nodes: &'a Nodes,
     trail: Option<Trail<'a>>,
