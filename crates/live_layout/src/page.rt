@@ -46,6 +46,7 @@ pub struct Filled {
 }
 
 // The next payload of a leaf from a byte on, up to another: its byte and itself.
+#[inline(always)]
 fn next_within<S, R: ReadWords<S>>(
     cells: &R,
     form: NodeType,
