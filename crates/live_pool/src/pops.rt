@@ -4,8 +4,8 @@ ghost use Rattle.live_scans.specs.Scans.{GaveUp};
 ghost use Rattle.live_pool.specs.Pops.{HasRemoved, HasLost, HasMissed, HasPopped};
 
 use crate::ends::end_within;
+use crate::pool::Pool;
 use live_growth::map::{Busy, Guard, TRIES};
-use live_pool::pool::Pool;
 
 // One search, and the removal of the pair that it found. `None` where another call removed or changed that pair first.
 fn pop_once(

@@ -2,9 +2,9 @@
 ghost use Rattle.std.specs.Prelude.{◌≡◌, ◌+◌};
 ghost use Rattle.live_pool.specs.Removals.{HasEmptied};
 
+use crate::pool::Pool;
 use crate::waits::popped;
 use live_growth::map::Guard;
-use live_pool::pool::Pool;
 use std::sync::Wait;
 
 /// Removes the pairs with keys from `low` to `last` by a pop of each, keys ascending, and returns how many. Needs no memory.

@@ -5,9 +5,9 @@ ghost use Rattle.live_updates.specs.Entries.{swapped};
 ghost use Rattle.live_scans.specs.Scans.{Waits, HasPage};
 ghost use Rattle.live_pool.specs.Retains.{HasJudged, HaveJudged, HasRetained};
 
+use crate::pool::Pool;
 use crossbeam_utils::Backoff;
 use live_growth::map::{Congee, Guard};
-use live_pool::pool::Pool;
 use live_scans::scans;
 use std::sync::Wait;
 

@@ -2,10 +2,10 @@
 ghost use Rattle.std.specs.Prelude.{◌≡◌, ◌+◌};
 ghost use Rattle.live_pool.specs.Pops.{HasPopped};
 
+use crate::pool::Pool;
 use crate::pops::pop;
 use crossbeam_utils::Backoff;
 use live_growth::map::Guard;
-use live_pool::pool::Pool;
 use std::sync::Wait;
 
 /// Removes the first pair with a key from `low` to `last`, or, downwards, the last one, and returns it. `None` where there is
