@@ -20,6 +20,9 @@ const COUNT: u64 = SEGMENT - 263;
 // How many words each of the first segments has.
 const SEGMENT: u64 = 512;
 
+// How many keys each segment has.
+const KEYS: u64 = 65_536;
+
 // How many guards there are at once.
 const GUARDS: u64 = 20;
 
@@ -168,7 +171,7 @@ fn a_thousand_guards_in_turn_have_one_room(rt: HostRuntime) -> Result<(), Fail> 
     assert!(rt; in_turn(&map, rt.alloc(), 0) == TURNS);
     assert!(rt; read_back(&map, 0) == TURNS);
     // Sixteen leaves take less than 16 * 500 words, so twenty segments have more than enough.
-    assert!(rt; next_room(&map).start < START + 20 * SEGMENT);
+    assert!(rt; next_room(&map).start < 3 + 20 * KEYS);
     assert!(rt; next_room(&map).left == 0);
     Ok(())
 }
@@ -254,7 +257,7 @@ fn go_twice(rt: &impl Abort, alloc: Global, map: &Pool, guard: &mut Guard)
 // those, and an inner node for sixteen, since the first guard keeps its own.
 fn go_by_another(rt: &impl Abort, alloc: Global, map: &Pool) {
     let (stored, room) = by_another(map, alloc);
-    let used = room.start.wrapping_sub(START + COUNT);
+    let used = room.start.wrapping_sub(3 + KEYS);
     let steps = [
         stored == LEAVES,
         used < 40,
@@ -296,7 +299,7 @@ fn a_window_that_moves_on_stays_in_its_room(rt: HostRuntime) -> Result<(), Fail>
     assert!(rt; move_on(&map, rt.alloc(), &mut guard, 1, 0, 20_000) == 20_000);
     let room = guard.room;
     // (two leaves of the largest form lie in a segment each)
-    assert!(rt; room.start < START + COUNT + 3 * SEGMENT);
+    assert!(rt; room.start < 3 + 4 * KEYS);
     Ok(())
 }
 
