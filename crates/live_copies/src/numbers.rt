@@ -24,6 +24,17 @@ pub fn pairs_back<K: Word, V: Word>(
     Ok(pairs)
 }
 
+/// The keys that the first of these numbers are read back as.
+pub fn keys_back<K: Word>(alloc: Global, numbers: &[(u64, u64)]) -> Result<Vec<K>, AllocError>
+    ensures { IfOk result (λ keys. keys.items ≡ map (λ p. K.of_number p.0) numbers.now) }
+{
+    let mut keys = Vec::with_capacity(alloc, numbers.len())?;
+    for &(key, _) in numbers {
+        keys.push(K::from_u64(key))?;
+    }
+    Ok(keys)
+}
+
 /// The pairs of a map with one owner, by their numbers.
 pub fn numbers_of<K: Word, V: Word, A: Allocator>(
     alloc: Global,

@@ -13,6 +13,8 @@ mod computes;
 mod counts;
 mod descents;
 mod floors;
+mod keys;
+mod many;
 mod moves;
 pub mod notes;
 mod pops;

@@ -1,7 +1,7 @@
 //! All keys of one moment.
 //!
 //! Tested in `test_live_slots`.
-ghost use Rattle.std.specs.Prelude.{◌≡◌, map, IfOk, OnErr};
+ghost use Rattle.std.specs.Prelude.{IfOk, OnErr};
 ghost use Rattle.live_scans.specs.Scans.{GaveUp, HasWaited, Waits};
 ghost use Rattle.live_payloads.specs.Payloads.{IsGuardOf, KnowsMore};
 ghost use Rattle.live_payloads.specs.Moves.{HasListedKeys};
@@ -10,22 +10,12 @@ use super::PayloadCongee;
 use crate::guard::PayloadGuard;
 use live_copies::copy::copy;
 use live_copies::moves::copied;
+use live_copies::numbers::keys_back;
 use live_growth::map::Refusal;
 use spec_map::error::OOMError;
 use spec_map::traits::Word;
-use std::alloc::{AllocError, Global};
+use std::alloc::Global;
 use std::sync::Wait;
-
-// The keys of pairs, each read back from its number.
-fn keys_back<K: Word>(alloc: Global, pairs: &[(u64, u64)]) -> Result<Vec<K>, AllocError>
-    ensures { IfOk result (λ keys. keys.items ≡ map (λ p. K.of_number p.0) pairs.now) }
-{
-    let mut keys = Vec::with_capacity(alloc, pairs.len())?;
-    for &(number, _) in pairs {
-        keys.push(K::from_u64(number))?;
-    }
-    Ok(keys)
-}
 
 impl<K: Word, P: Drop> PayloadCongee<K, P> {
     /// All keys of one moment, ascending, each read back from its number. `Refusal::Busy` if too many writers came in between,
