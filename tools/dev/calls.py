@@ -184,8 +184,8 @@ OWN = {
     "C": "free note_free version",
     "C++": """at begin cbegin cend count emplace end equal_range erase find native swap try_insert_or_assign try_new""",
     "Rust": "clone iter into_keys into_values try_append try_clone try_extend try_from_iter try_split_off",
-    "Rattle": """allocator compute_if_present drain extract_range from_owned get_gated insert_counted insert_gated insert_numbers
-        into_owned is_empty_recorded iter_range iter_range_inclusive keys_recorded new_with_drainer pin_waiting range_descending_of
+    "Rattle": """allocator compute_if_present drain extract_range extract_range_inclusive from_owned get_gated insert_counted
+        insert_gated insert_numbers into_owned is_empty_recorded iter_range iter_range_inclusive keys_recorded new_with_drainer pin_waiting range_descending_of
         range_inclusive_of range_of range_recorded range_recorded_of remove_counted remove_gated remove_range settle settle_recorded
         stats unpin value_count_recorded""",
 }
@@ -220,9 +220,9 @@ WHY = (
     ("each", "Rattle", "Shared Sharded Live", "`range`"),
     ("each_descending", "Rattle", "*", "`range_descending`"),
     ("keys values", "C", "*", "`each`"),
-    ("keys", "Rattle", "Sharded Live", "`range`"),
+    ("keys", "Rattle", "Sharded", "`range`"),
     ("values", "Rattle", "*", "`range`"),
-    ("insert_many remove_range_inclusive clear", "Rattle", "Sharded Live", "loop"),
+    ("insert_many remove_range_inclusive clear", "Rattle", "Sharded", "loop"),
     ("retain", "Rattle", "Sharded", "loop"),
     ("pop_first_to", "Rattle", "*", "`first`"),
     ("pop_last_from", "Rattle", "*", "`last`"),

@@ -12,6 +12,8 @@ mod guards;
 #[cfg(test)]
 mod limits;
 #[cfg(test)]
+mod many;
+#[cfg(test)]
 mod moved;
 #[cfg(test)]
 mod moved_words;
