@@ -1,2 +1,3 @@
 pub mod Returned
 pub mod Inserted
+pub mod Iterated

@@ -13,6 +13,7 @@ mod computes;
 mod counts;
 mod descents;
 mod floors;
+pub mod iter;
 mod keys;
 mod many;
 mod moves;

@@ -1,14 +1,13 @@
 //! Removals of the pairs for which a closure answers no.
-ghost use Rattle.std.specs.Prelude.{◌≡◌, ◌+◌, ◌≤◌, None, IfOk, length, take};
+ghost use Rattle.std.specs.Prelude.{◌≡◌, ◌+◌, ◌≤◌, None, IfOk, length};
 ghost use Rattle.live_law.specs.Known.{MadeCall};
 ghost use Rattle.live_updates.specs.Entries.{swapped};
-ghost use Rattle.live_scans.specs.Scans.{Waits, HasPage};
 ghost use Rattle.live_pool.specs.Retains.{HasJudged, HaveJudged, HasRetained};
 
 use crate::pool::Pool;
+use crate::waits::listed;
 use crossbeam_utils::Backoff;
-use live_growth::map::{Congee, Guard};
-use live_scans::scans;
+use live_growth::map::Guard;
 use std::sync::Wait;
 
 /// How many pairs are read at once.
@@ -31,31 +30,6 @@ fn exchanged<R: Wait>(
     for _ in rt.forever() {
         if let Ok(answer) = pool.compare_exchange(guard, key, value, None) {
             return answer;
-        }
-        pause.snooze();
-    }
-    unreachable!()
-}
-
-// Reads a page of the keys from `from` to `last`.
-fn listed<R: Wait>(
-    rt: &R,
-    map: &Congee,
-    guard: &mut Guard,
-    from: u64,
-    last: u64,
-    page: &mut [(u64, u64)],
-) -> usize
-    requires map { guard.old.book ≡ map.now }
-    ensures map { guard.new.book ≡ guard.old.book }
-    ensures count { result ≤ length page.old }
-    ensures page { Waits guard.old (λ k. HasPage k from (last + 1) (length page.old)
-        (take result page.new) guard.new) }
-{
-    let pause = Backoff::new();
-    for _ in rt.forever() {
-        if let Ok(count) = scans::range_inclusive(map, guard, from, last, page) {
-            return count;
         }
         pause.snooze();
     }

@@ -10,7 +10,7 @@ ghost use Rattle.live_scans.specs.Scans.{GaveUp, Waits};
 ghost use Rattle.live_scans.specs.Descents.{HasPageDown};
 
 use super::{Busy, Congee, Guard};
-use crossbeam_utils::Backoff;
+use live_pool::waits::listed_down;
 use live_scans::descents;
 use spec_map::traits::Word;
 use std::sync::Wait;
@@ -59,13 +59,7 @@ impl<K: Word, V: Word> Congee<K, V> {
         ensures page { Waits guard.old (λ k. HasPageDown k (K.number first.now) (K.number last.now + 1)
             (length buffer.old) (take result buffer.new) guard.new) }
     {
-        let pause = Backoff::new();
-        for _ in rt.forever() {
-            if let Ok(count) = self.try_range_descending(guard, first, last, buffer) {
-                return count;
-            }
-            pause.snooze();
-        }
-        unreachable!()
+        let (low, high) = (first.into_u64(), last.into_u64());
+        listed_down(rt, &self.pool.map, guard, low, high, buffer)
     }
 }

@@ -12,6 +12,7 @@ ghost use Rattle.live_faces.specs.Returned.{ReturnsNext, pair_of};
 
 use super::{Busy, Congee, Guard};
 use crossbeam_utils::Backoff;
+use live_pool::waits::listed;
 use live_scans::scans;
 use spec_map::traits::Word;
 use std::sync::Wait;
@@ -122,14 +123,8 @@ impl<K: Word, V: Word> Congee<K, V> {
         ensures page { Waits guard.old (λ k. HasPage k (K.number first.now) (K.number last.now + 1)
             (length buffer.old) (take result buffer.new) guard.new) }
     {
-        let pause = Backoff::new();
-        for _ in rt.forever() {
-            if let Ok(count) = self.try_range_inclusive(guard, first, last, buffer) {
-                return count;
-            }
-            pause.snooze();
-        }
-        unreachable!()
+        let (low, high) = (first.into_u64(), last.into_u64());
+        listed(rt, &self.pool.map, guard, low, high, buffer)
     }
 
     /// The pair with the least key, by numbers, that is at least this one. `Busy` if too many writers came in between.

@@ -1,5 +1,5 @@
 use Rattle.live_scans.specs.Scans.{HasWaited}
-use Rattle.live_pool.proofs.retains.listed.Given as goal
+use Rattle.live_pool.proofs.waits.listed.Given as goal
 
 abbrev pub invariant-loop : goal.invariant-loop
 invariant-loop g l = (goal.iterator-loop g).can_next l.iterator' × (goal.iterator-loop g).is_finite l.iterator' × HasWaited l.fn.guard l.guard

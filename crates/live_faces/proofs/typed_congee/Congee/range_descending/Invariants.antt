@@ -1,5 +1,0 @@
-use Rattle.live_scans.specs.Scans.{HasWaited}
-use Rattle.live_faces.proofs.typed_congee.Congee.range_descending.Given as goal
-
-abbrev pub invariant-loop : goal.invariant-loop
-invariant-loop g l = (goal.iterator-loop g).can_next l.iterator' × (goal.iterator-loop g).is_finite l.iterator' × HasWaited l.fn.guard l.guard
