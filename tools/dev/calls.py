@@ -156,8 +156,8 @@ ROWS = (
     row("range", "-", "read_range"),
     row("range_inclusive", "-", "read_range_inclusive"),
     row("range_descending", "-", "read_range_descending"),
-    row("each", "", "range", {"": "-", "Map": "iter"}),
-    row("each_descending", "", "range", "-"),
+    row("each", "", "range", {"": "-", "Map": "iter", "Live": "iter"}),
+    row("each_descending", "", "range", {"": "-", "Live": "iter_descending"}),
     row("-", "keys", "keys", "keys"),
     row("-", "values", "values", "-"),
     row("insert_many", "insert", "extend"),
@@ -185,7 +185,7 @@ OWN = {
     "C++": """at begin cbegin cend count emplace end equal_range erase find native swap try_insert_or_assign try_new""",
     "Rust": "clone iter into_keys into_values try_append try_clone try_extend try_from_iter try_split_off",
     "Rattle": """allocator compute_if_present drain extract_range extract_range_inclusive from_owned get_gated insert_counted
-        insert_gated insert_numbers into_owned is_empty_recorded iter_range iter_range_inclusive keys_recorded new_with_drainer pin_waiting range_descending_of
+        insert_gated insert_numbers into_owned is_empty_recorded iter_range iter_range_descending iter_range_inclusive keys_recorded new_with_drainer pin_waiting range_descending_of
         range_inclusive_of range_of range_recorded range_recorded_of remove_counted remove_gated remove_range settle settle_recorded
         stats unpin value_count_recorded""",
 }
@@ -217,7 +217,7 @@ WHY = (
     ("compute", "Rattle", "Sharded", "`compare_exchange`"),
     ("range range_inclusive", "C++", "*", "`each`"),
     ("range_descending", "C++", "*", "`each_descending`"),
-    ("each", "Rattle", "Shared Sharded Live", "`range`"),
+    ("each", "Rattle", "Shared Sharded", "`range`"),
     ("each_descending", "Rattle", "*", "`range_descending`"),
     ("keys values", "C", "*", "`each`"),
     ("keys", "Rattle", "Sharded", "`range`"),

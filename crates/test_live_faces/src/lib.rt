@@ -10,6 +10,8 @@ mod descents;
 #[cfg(test)]
 mod guards;
 #[cfg(test)]
+mod iterators;
+#[cfg(test)]
 mod limits;
 #[cfg(test)]
 mod many;
