@@ -1,6 +1,6 @@
 -- A page that an iterator has read.
-use Rattle.std.proofs.Common.{◌≡◌, ℕ, suc, ◌+◌, ◌-◌, ◌<◌, ◌≤◌, false, List, [], ◌∷◌, ◌++◌, length, take, get_or, reverse, length-take-le, refl, sym, ap, ◌∙◌, subst, arith}
-use Rattle.std.proofs.lemmas.List.{take_all, take_more}
+use Rattle.std.proofs.Common.{◌≡◌, ℕ, suc, ◌+◌, ◌-◌, ◌<◌, ◌≤◌, true, false, List, [], ◌∷◌, ◌++◌, length, take, get_or, reverse, length-take-le, refl, sym, ap, ◌∙◌, subst, arith}
+use Rattle.std.proofs.lemmas.List.{take_all, take_more, reverse-append, length-reverse}
 use Rattle.spec_map.specs.Map.{Pairs, Rises}
 use Rattle.live_law.specs.Known.{Known}
 use Rattle.live_scans.specs.Scans.{HasRead, HasPage, Waits}
@@ -30,3 +30,31 @@ pub record IsPartDown (k n : Known) (low high least : ℕ) (ps : Pairs ℕ) : Ty
   pub low_is : low ≤ least
   pub inside : least < high
   pub few : length ps + least ≤ high
+
+last_first : (ps : Pairs ℕ) (i : ℕ) (d : ℕ × ℕ) → length ps ≡ suc i → reverse ps ≡ get_or ps i d ∷ reverse (take i ps)
+last_first ps i d is =
+    ap reverse (sym (take_all (i + 1) ps (omega (arith, is))) ∙ take_more ps i d (omega (arith, is)))
+    ∙ reverse-append (take i ps) (get_or ps i d ∷ [])
+
+down_to : (k n : Known) (low high room : ℕ) (ps : Pairs ℕ) (i : ℕ) (d : ℕ × ℕ) → length ps ≡ suc i → HasPageDown k low high room ps n → IsPartDown k n low high (get_or ps i d).0 ps
+down_to k n low high room ps i d is p =
+    let e = get_or ps i d in
+    let first = last_first ps i d is in
+    let r = p.read in
+    let inside = p.inside in
+    let rises = subst (Rises p.end high) first r.ascend in
+    let a = rises.0 in
+    let b = rises.1 in
+    let up = subst (Rises e.0 high) (sym first) (omega arith, b, rises.2) in
+    let few = rises_few e.0 high (reverse ps) (omega (arith, b)) up in
+    record {
+      part = (p.seen, shrunk false p.seen.start.seen n.seen p.end high e.0 high (reverse ps) r a (omega arith) up);
+      low_is = omega (arith, inside, a);
+      inside = b;
+      few = omega (arith, few, length-reverse ps);
+    }
+
+pub down_full : (k n : Known) (low high room read i : ℕ) (page : Pairs ℕ) → length page ≡ suc i → suc i ≤ read → (w : Waits k (λ m. HasPageDown m low high room (take read page) n)) → IsPartDown w.0 n low high (get_or page i (0, 0)).0 (take read page)
+down_full k n low high room read i page long full w =
+    let all : take read page ≡ page = take_all read page (omega (arith, long, full)) in
+    subst (λ (z : Pairs ℕ). IsPartDown w.0 n low high (get_or page i (0, 0)).0 z) (sym all) (down_to w.0 n low high room page i (0, 0) long (subst (λ (z : Pairs ℕ). HasPageDown w.0 low high room z n) all w.2))

@@ -2,11 +2,9 @@
 
 ghost use Rattle.std.specs.Prelude.{◌≡◌};
 
+use crate::busy::is_locked;
 use crate::calls::{all_hold, get, insert, put, remove_by};
-use live_growth::held::lock_node;
 use live_growth::map::{Busy, Congee, Guard, Refusal};
-use live_reads::descend::descend;
-use live_reads::path::words_at;
 use live_updates::calls::remove;
 use live_updates::computes::present::add;
 use std::alloc::Global;
@@ -150,19 +148,6 @@ fn a_full_map_keeps_its_pairs(rt: HostRuntime) -> Result<(), Fail> {
     let map = Congee::with_limit(rt.alloc(), 130_000)?;
     keep_when_full(&rt, rt.alloc(), &map, &mut map.pin());
     Ok(())
-}
-
-// Locks the node at which a key's path ends, for ever. Whether it did.
-fn is_locked(map: &Congee, key: u64) -> bool {
-    let mut seat = map.pin().seat;
-    let Some(end) = descend(&map.nodes, key, &mut seat) else {
-        return false;
-    };
-    let name = end.position.name;
-    let Some(words) = words_at(&map.nodes, name) else {
-        return false;
-    };
-    lock_node(words, name, end.position.height, key, &mut seat).is_some()
 }
 
 // The calls at a locked leaf are busy, and not out of memory. The key of this number is there, others are elsewhere.
