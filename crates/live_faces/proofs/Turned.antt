@@ -1,5 +1,5 @@
 -- A page that an iterator has read.
-use Rattle.std.proofs.Common.{◌≡◌, ℕ, suc, ◌+◌, ◌-◌, ◌<◌, ◌≤◌, true, false, List, [], ◌∷◌, ◌++◌, length, take, get_or, reverse, length-take-le, refl, sym, ap, ◌∙◌, subst, arith}
+use Rattle.std.proofs.Common.{◌≡◌, ℕ, suc, ◌+◌, ◌-◌, ◌<◌, ◌≤◌, true, false, [], ◌∷◌, length, take, get_or, reverse, length-take-le, sym, ap, ◌∙◌, subst, arith}
 use Rattle.std.proofs.lemmas.List.{take_all, take_more, reverse-append, length-reverse}
 use Rattle.spec_map.specs.Map.{Pairs, Rises}
 use Rattle.live_law.specs.Known.{Known}
@@ -8,6 +8,15 @@ use Rattle.live_scans.specs.Descents.{HasPageDown}
 use Rattle.live_scans.proofs.Composed.{shrunk}
 use Rattle.live_pool.proofs.Judged.{IsPart, part_whole, part_full, rises_few}
 use Rattle.live_faces.specs.Iterated.{HasPart}
+
+-- keys that ascend are as many as lie between their bounds, at most
+pub rises_fits : (low high : ℕ) (ps : Pairs ℕ) → Rises low high ps → length ps ≤ high - low
+rises_fits low high [] r = omega arith
+rises_fits low high (e ∷ es) r =
+    let a = r.0 in
+    let b = r.1 in
+    let l = rises_fits (e.0 + 1) high es r.2 in
+    omega (arith, a, b, l)
 
 -- UPWARDS: all keys of a page that isn't full,
 pub up_whole : (k n : Known) (low high room read : ℕ) (page : Pairs ℕ) → length page ≡ room → read < room → Waits k (λ m. HasPage m low high room (take read page) n) → Waits k (λ m. HasPart true low high (take read page) m n)

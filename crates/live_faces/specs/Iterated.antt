@@ -1,5 +1,5 @@
 -- AN ITERATOR over the keys of a range, while others write. It reads pages, and gives their pairs one by one.
-use Rattle.std.specs.Prelude.{◌≡◌, ◌⊎◌, ℕ, suc, ◌+◌, ◌-◌, Bool, true, false, [], ◌∷◌, length, reverse, Option, Some, None}
+use Rattle.std.specs.Prelude.{◌≡◌, ◌⊎◌, ℕ, suc, ◌+◌, ◌-◌, Bool, true, false, [], ◌∷◌, reverse, Option, Some, None}
 use Rattle.spec_map.specs.Map.{Pairs}
 use Rattle.live_law.specs.Known.{Known}
 use Rattle.live_scans.specs.Scans.{HasRead, HasBegun, Waits}

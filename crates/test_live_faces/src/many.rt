@@ -170,7 +170,12 @@ impl Word for Tens {
 fn read_back<R: Wait>(rt: &R, alloc: Global) -> Result<(bool, u64), OOMError> {
     let map: Congee<Tens, Tens> = Congee::new(alloc)?;
     let mut guard = map.pin();
-    map.insert_many(rt, alloc, &mut guard, &[(Tens(57), Tens(12)), (Tens(31), Tens(44))])?;
+    map.insert_many(
+        rt,
+        alloc,
+        &mut guard,
+        &[(Tens(57), Tens(12)), (Tens(31), Tens(44))],
+    )?;
     let keys = map.keys(rt, alloc, &mut guard)?;
     let mut sum = 0u64;
     let _ = map.extract_range_inclusive(

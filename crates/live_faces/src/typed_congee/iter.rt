@@ -4,7 +4,7 @@
 //! read at a moment of its own after the page before.
 //!
 //! Tested in `test_live_faces`.
-ghost use Rattle.std.specs.Prelude.{◌≡◌, ◌+◌, ◌≤◌, ◌^◌, ◌-◌, true, false, [], ◌∷◌, length, IfNone, IfSome, Some};
+ghost use Rattle.std.specs.Prelude.{◌≡◌, ◌+◌, ◌≤◌, ◌^◌, ◌-◌, true, false, [], ◌∷◌, length, IfNone, IfSome, None, Some};
 ghost use Rattle.std.specs.Iterator.{at_most};
 ghost use Rattle.live_faces.specs.Iterated.{Gives, HasTurned, iterated, unread_keys};
 ghost use Rattle.live_faces.specs.Returned.{pair_of};
@@ -77,6 +77,7 @@ impl Page {
         ensures map { guard.new.book ≡ guard.old.book }
         ensures turned { HasTurned true low last guard.old self.new result guard.new }
         ensures few { length self.new + unread_keys result ≤ unread_keys (Some (low, last)) }
+        ensures ends { self.new ≡ [] → result ≡ None }
     {
         self.next = 0;
         self.count = listed(rt, map, guard, low, last, &mut self.pairs);
@@ -104,6 +105,7 @@ impl Page {
         ensures map { guard.new.book ≡ guard.old.book }
         ensures turned { HasTurned false low last guard.old self.new result guard.new }
         ensures few { length self.new + unread_keys result ≤ unread_keys (Some (low, last)) }
+        ensures ends { self.new ≡ [] → result ≡ None }
     {
         self.next = 0;
         self.count = listed_down(rt, map, guard, low, last, &mut self.pairs);
@@ -147,7 +149,7 @@ impl<'a, R: Wait, K: Word, V: Word> Model for Iter<'a, R, K, V> {
 impl<'a, R: Wait, K: Word, V: Word> Iter<'a, R, K, V> {
     /// Its guard. What the iterator has read and not given is lost.
     pub fn into_guard(self) -> Guard
-        ensures { result ≡ self.known }
+        ensures { result ≡ self.entry.known }
     {
         let Iter {
             rt: _,
@@ -173,11 +175,13 @@ impl<'a, R: Wait, K: Word, V: Word> Iterator for Iter<'a, R, K, V> {
             return Some((K::from_u64(key), V::from_u64(value)));
         }
         let (low, last) = self.unread?;
-        let map = &self.map.pool.map;
+        let map = self.map;
+        let map = &map.pool.map;
         self.unread = if self.up {
             self.page.turn_up(self.rt, map, &mut self.guard, low, last)
         } else {
-            self.page.turn_down(self.rt, map, &mut self.guard, low, last)
+            self.page
+                .turn_down(self.rt, map, &mut self.guard, low, last)
         };
         let (key, value) = self.page.pop()?;
         Some((K::from_u64(key), V::from_u64(value)))

@@ -32,8 +32,8 @@ impl<K: Word, V: Word> Congee<K, V> {
             (λ pair. FoundNone m (K.number pair.0) guard.new)) }
     {
         for i in 0..pairs.len() {
-            let (key, value) = pairs[i];
-            let Ok(_) = self.insert(rt, alloc, guard, key, value) else {
+            let pair = pairs[i];
+            let Ok(_) = self.insert(rt, alloc, guard, pair.0, pair.1) else {
                 return Err(InsertManyError { inserted: i });
             };
         }

@@ -14,8 +14,8 @@ use spec_map::traits::Word;
 use std::marker::PhantomData;
 use std::sync::Wait;
 
-// The way to a closure of keys and values: it is called with those that the numbers mean.
-struct Numbers<K, V> {
+/// The way to a closure of keys and values: it is called with those that the numbers mean.
+pub struct Numbers<K, V> {
     of: PhantomData<(K, V)>,
 }
 
