@@ -19,6 +19,7 @@ use Rattle.live_growth.specs.Holds.{HasRest}
 use Rattle.live_growth.specs.Rooms.{HasRoom, HasGrown}
 use Rattle.live_growth.specs.FreeNodes.{slot_of, HasFreeNodes}
 use Rattle.live_growth.specs.declared.link.Room.{Room}
+use Rattle.live_growth.specs.declared.free_nodes.Forms.{Forms}
 use Rattle.live_growth.specs.declared.free_nodes.FreeNodes.{FreeNodes}
 use Rattle.live_growth.specs.declared.map.Refusal.{Refusal}
 use Rattle.live_growth.specs.Calls.{IsReady, known_of, Inserts}
@@ -62,8 +63,8 @@ leaves_grown v w name key height byte g l = record {
 }
 
 -- a new seat
-pub ready_new : (v : Seen) (s : FreeNodes) (l : LastLeaf) → v ≡ seat_view (view_of [] [] []) (place 0 1 1 ∷ []) [] [] no_room → ((u : Seen) → HasFreeNodes u s) → ((u : Seen) → KnowsLast u l) → IsReady v (record { start = 0; left = 0; spare = s; cleanup_due = None; is_last = false; is_changed = false; last = l })
-ready_new v s l e has knows = subst (λ (u : Seen). IsReady u (record { start = 0; left = 0; spare = s; cleanup_due = None; is_last = false; is_changed = false; last = l })) (sym e) record {
+pub ready_new : (v : Seen) (s : FreeNodes) (u : Forms) (l : LastLeaf) → v ≡ seat_view (view_of [] [] []) (place 0 1 1 ∷ []) [] [] no_room → ((u : Seen) → HasFreeNodes u s) → ((u : Seen) → KnowsLast u l) → IsReady v (record { start = 0; left = 0; spare = s; cleanup_due = None; is_last = false; is_changed = false; used = u; last = l })
+ready_new v s u l e has knows = subst (λ (w : Seen). IsReady w (record { start = 0; left = 0; spare = s; cleanup_due = None; is_last = false; is_changed = false; used = u; last = l })) (sym e) record {
   root_word = inl refl;
   own = refl;
   holds = refl;
@@ -107,8 +108,8 @@ ready_cleanup_due v m key r = record { root_word = r.root_word; own = r.own; hol
 pub ready_is_last : (v : Seen) (m : Room) (is : Bool) → IsReady v m → IsReady v (record m { is_last = is })
 ready_is_last v m is r = record { root_word = r.root_word; own = r.own; holds = r.holds; words = r.words; spare = r.spare; last = r.last }
 
-pub ready_changed : (v : Seen) (m : Room) (is : Bool) → IsReady v m → IsReady v (record m { is_changed = is })
-ready_changed v m is r = record { root_word = r.root_word; own = r.own; holds = r.holds; words = r.words; spare = r.spare; last = r.last }
+pub ready_changed : (v : Seen) (m : Room) (is : Bool) (forms : Forms) → IsReady v m → IsReady v (record m { is_changed = is; used = forms })
+ready_changed v m is forms r = record { root_word = r.root_word; own = r.own; holds = r.holds; words = r.words; spare = r.spare; last = r.last }
 
 -- and has come to another leaf
 pub ready_last : (v : Seen) (m : Room) (l : LastLeaf) → IsReady v m → KnowsLast v l → IsReady v (record m { last = l })

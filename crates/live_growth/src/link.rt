@@ -10,7 +10,7 @@ ghost use Rattle.live_reads.specs.Paths.{Names, Sights};
 ghost use Rattle.live_growth.specs.FreeNodes.{HasFreeNodes};
 ghost use Rattle.live_growth.specs.Rooms.{HasGrown};
 
-use crate::free_nodes::FreeNodes;
+use crate::free_nodes::{Forms, FreeNodes};
 use crate::held::{lock_node, reclaim, unlock_again, unlock_same};
 use crate::write::Hindrance;
 use live_law::law::{Asks, MapLaw, MapView, Same};
@@ -32,7 +32,8 @@ pub const NEW: NodeType = NodeType::N4;
 /// A seat's room: the first of its words, how many there are at least, and nodes that it may use again. With it a key is kept
 /// whose path may lead to a node without children, since a writer came in between. `is_last` where there was no memory for more room
 /// when one was asked for: a larger node serves then for one that is lacking. `is_changed` where a node was made, used again or taken
-/// out since the room was last put in order. `last` is the leaf that the seat has come to last.
+/// out since the room was last put in order, and `used` has the forms of which nodes were made or used again. `last` is the leaf that
+/// the seat has come to last.
 #[derive(Clone, Copy, Debug, PartialEq, Eq)]
 pub struct Room {
     pub start: u64,
@@ -41,6 +42,7 @@ pub struct Room {
     pub cleanup_due: Option<u64>,
     pub is_last: bool,
     pub is_changed: bool,
+    pub used: Forms,
     pub last: LastLeaf,
 }
 

@@ -5,7 +5,7 @@ ghost use Rattle.live_law.specs.Views.{ask, got, inserted};
 ghost use Rattle.live_law.specs.Known.{MadeCall};
 ghost use Rattle.live_reads.specs.Meetings.{SeenMore};
 
-use crate::free_nodes::FreeNodes;
+use crate::free_nodes::{Forms, FreeNodes};
 use crate::insert::{reserve, try_insert};
 use crate::link::Room;
 use crate::make_root::make_root;
@@ -115,6 +115,7 @@ impl Congee {
             cleanup_due: None,
             is_last: false,
             is_changed: false,
+            used: Forms::none(),
             last: LastLeaf::none(),
         };
         let _ = reserve(&nodes, alloc, &mut room, &mut seat)?;
@@ -153,6 +154,7 @@ impl Congee {
                 cleanup_due: None,
                 is_last: false,
                 is_changed: false,
+                used: Forms::none(),
                 last: LastLeaf::none(),
             },
         }

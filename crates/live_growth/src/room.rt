@@ -73,6 +73,7 @@ pub fn spare_or_made(
     ensures sighted { 1 ≤ result → Sights seat.new.view result }
 {
     room.is_changed = true;
+    room.used.add(form);
     if spare != 0 {
         return spare;
     }
