@@ -1,22 +1,28 @@
 -- A seat stays ready for the next call.
-use Rattle.std.proofs.Common.{◌≡◌, ℕ, nat_eq, List, [], ◌∷◌, ◌++◌, refl, sym, ap, ◌∙◌, subst, inl, arith, Bool, false, Option, Some, None, IfSome, ◌≤◌}
+use Rattle.std.proofs.Common.{◌≡◌, ℕ, nat_eq, List, [], ◌∷◌, ◌++◌, refl, sym, ap, ◌∙◌, subst, inl, arith, Bool, true, false, Option, Some, None, IfSome, Result, Ok, Err, ◌≤◌}
+use Rattle.std.specs.Result.{IsErr}
 use Rattle.share_rule.specs.History.{Entry, entries_of, IsLegalHistory}
 use Rattle.share_rule.proofs.Keeps.{entries-append}
 use Rattle.word_book.specs.Book.{Book}
 use Rattle.live_nodes.specs.Seats.{Place, place, no_room, SeatView, seat_view, IsIn}
 use Rattle.live_nodes.specs.Plays.{given, met}
 use Rattle.live_law.specs.Levels.{Spot, place_at}
-use Rattle.live_law.specs.Views.{View, view_of}
+use Rattle.live_law.specs.Views.{View, view_of, Ask, ask, inserted}
 use Rattle.live_law.specs.Tree.{Answers}
 use Rattle.live_law.specs.Known.{Known, MadeCall}
 use Rattle.live_law.proofs.Histories.{its_own}
 use Rattle.live_reads.specs.Paths.{Names, Sights, Leaves, Keeps}
+use Rattle.live_reads.specs.Positions.{KnowsLast}
+use Rattle.live_reads.specs.declared.last_leaf.LastLeaf.{LastLeaf}
+use Rattle.live_reads.proofs.Stood.{last_known, last_kept}
 use Rattle.live_growth.specs.Holds.{HasRest}
 use Rattle.live_growth.specs.Rooms.{HasRoom, HasGrown}
 use Rattle.live_growth.specs.FreeNodes.{slot_of, HasFreeNodes}
 use Rattle.live_growth.specs.declared.link.Room.{Room}
+use Rattle.live_growth.specs.declared.free_nodes.Forms.{Forms}
 use Rattle.live_growth.specs.declared.free_nodes.FreeNodes.{FreeNodes}
-use Rattle.live_growth.specs.Calls.{IsReady, known_of}
+use Rattle.live_growth.specs.declared.map.Refusal.{Refusal}
+use Rattle.live_growth.specs.Calls.{IsReady, known_of, Inserts}
 
 abbrev Seen : Type 0
 Seen = SeatView View
@@ -57,13 +63,14 @@ leaves_grown v w name key height byte g l = record {
 }
 
 -- a new seat
-pub ready_new : (v : Seen) (s : FreeNodes) → v ≡ seat_view (view_of [] [] []) (place 0 1 1 ∷ []) [] [] no_room → ((u : Seen) → HasFreeNodes u s) → IsReady v (record { start = 0; left = 0; spare = s; cleanup_due = None; is_last = false })
-ready_new v s e has = subst (λ (u : Seen). IsReady u (record { start = 0; left = 0; spare = s; cleanup_due = None; is_last = false })) (sym e) record {
+pub ready_new : (v : Seen) (s : FreeNodes) (u : Forms) (l : LastLeaf) → v ≡ seat_view (view_of [] [] []) (place 0 1 1 ∷ []) [] [] no_room → ((u : Seen) → HasFreeNodes u s) → ((u : Seen) → KnowsLast u l) → IsReady v (record { start = 0; left = 0; spare = s; cleanup_due = None; is_last = false; is_changed = false; used = u; last = l })
+ready_new v s u l e has knows = subst (λ (w : Seen). IsReady w (record { start = 0; left = 0; spare = s; cleanup_due = None; is_last = false; is_changed = false; used = u; last = l })) (sym e) record {
   root_word = inl refl;
   own = refl;
   holds = refl;
   words = record { count = 0; enough = omega arith; is = refl };
   spare = has (seat_view (view_of [] [] []) (place 0 1 1 ∷ []) [] [] no_room);
+  last = knows (seat_view (view_of [] [] []) (place 0 1 1 ∷ []) [] [] no_room);
 }
 
 pub ready_kept : (v w : Seen) (m : Room) → IsReady v m → Keeps v w → IsReady w m
@@ -73,38 +80,47 @@ ready_kept v w m r k = record {
   holds = k.holds ∙ r.holds;
   words = room_same v w m.start m.left k.room r.words;
   spare = free_nodes_kept v w m.spare k.places k.met r.spare;
+  last = last_kept v w m.last k r.last;
 }
 
 -- and has other words, and other nodes to use again
-pub ready_with : (v w : Seen) (m m' : Room) → IsReady v m → HasGrown v w → HasRoom w m'.start m'.left → HasFreeNodes w m'.spare → IsReady w m'
-ready_with v w m m' r g words spare = record {
+pub ready_with : (v w : Seen) (m m' : Room) → IsReady v m → HasGrown v w → HasRoom w m'.start m'.left → HasFreeNodes w m'.spare → m'.last ≡ m.last → IsReady w m'
+ready_with v w m m' r g words spare same = record {
   root_word = g.places (place 0 1 1) r.root_word;
   own = g.own;
   holds = g.holds;
   words = words;
   spare = spare;
+  last = subst (KnowsLast w) (sym same) (last_known v w m.last g.places g.met r.last);
 }
 
-pub ready_grown : (v w : Seen) (m m' : Room) → IsReady v m → HasGrown v w → HasRoom w m'.start m'.left → m'.spare ≡ m.spare → IsReady w m'
-ready_grown v w m m' r g words same = ready_with v w m m' r g words (subst (HasFreeNodes w) (sym same) (free_nodes_grown v w m.spare g r.spare))
+pub ready_grown : (v w : Seen) (m m' : Room) → IsReady v m → HasGrown v w → HasRoom w m'.start m'.left → m'.spare ≡ m.spare → m'.last ≡ m.last → IsReady w m'
+ready_grown v w m m' r g words same same_last = ready_with v w m m' r g words (subst (HasFreeNodes w) (sym same) (free_nodes_grown v w m.spare g r.spare)) same_last
 
 -- and another node may be used again
 pub ready_spare : (v : Seen) (m : Room) (s : FreeNodes) → IsReady v m → HasFreeNodes v s → IsReady v (record m { spare = s })
-ready_spare v m s r spare = record { root_word = r.root_word; own = r.own; holds = r.holds; words = r.words; spare = spare }
+ready_spare v m s r spare = record { root_word = r.root_word; own = r.own; holds = r.holds; words = r.words; spare = spare; last = r.last }
 
 -- and the path of a key is still to be tidied
 pub ready_cleanup_due : (v : Seen) (m : Room) (key : Option ℕ) → IsReady v m → IsReady v (record m { cleanup_due = key })
-ready_cleanup_due v m key r = record { root_word = r.root_word; own = r.own; holds = r.holds; words = r.words; spare = r.spare }
+ready_cleanup_due v m key r = record { root_word = r.root_word; own = r.own; holds = r.holds; words = r.words; spare = r.spare; last = r.last }
 
 pub ready_is_last : (v : Seen) (m : Room) (is : Bool) → IsReady v m → IsReady v (record m { is_last = is })
-ready_is_last v m is r = record { root_word = r.root_word; own = r.own; holds = r.holds; words = r.words; spare = r.spare }
+ready_is_last v m is r = record { root_word = r.root_word; own = r.own; holds = r.holds; words = r.words; spare = r.spare; last = r.last }
+
+pub ready_changed : (v : Seen) (m : Room) (is : Bool) (forms : Forms) → IsReady v m → IsReady v (record m { is_changed = is; used = forms })
+ready_changed v m is forms r = record { root_word = r.root_word; own = r.own; holds = r.holds; words = r.words; spare = r.spare; last = r.last }
+
+-- and has come to another leaf
+pub ready_last : (v : Seen) (m : Room) (l : LastLeaf) → IsReady v m → KnowsLast v l → IsReady v (record m { last = l })
+ready_last v m l r known = record { root_word = r.root_word; own = r.own; holds = r.holds; words = r.words; spare = r.spare; last = known }
 
 -- and another node is in use again
 pub ready_again : (v w : Seen) (m : Room) (s : FreeNodes) → IsReady v m → HasGrown v w → w.room ≡ v.room → ((u : Seen) → HasFreeNodes u m.spare → HasFreeNodes u s) → IsReady w (record m { spare = s })
-ready_again v w m s r g room left = ready_with v w m (record m { spare = s }) r g (room_same v w m.start m.left room r.words) (left w (free_nodes_grown v w m.spare g r.spare))
+ready_again v w m s r g room left = ready_with v w m (record m { spare = s }) r g (room_same v w m.start m.left room r.words) (left w (free_nodes_grown v w m.spare g r.spare)) refl
 
 pub ready_again_met : (v w : Seen) (m : Room) (s : FreeNodes) (n : ℕ) → IsReady v m → HasGrown v w → w.room ≡ v.room → Sights v n → ((u : Seen) → HasFreeNodes u m.spare → Sights u n → HasFreeNodes u s) → IsReady w (record m { spare = s })
-ready_again_met v w m s n r g room met left = ready_with v w m (record m { spare = s }) r g (room_same v w m.start m.left room r.words) (left w (free_nodes_grown v w m.spare g r.spare) (sights_kept v w n g.places g.met met))
+ready_again_met v w m s n r g room met left = ready_with v w m (record m { spare = s }) r g (room_same v w m.start m.left room r.words) (left w (free_nodes_grown v w m.spare g r.spare) (sights_kept v w n g.places g.met met)) refl
 
 pub ready_rest : (v w : Seen) (m : Room) → IsReady v m → HasRest v w → IsReady w m
 ready_rest v w m r h =
@@ -114,6 +130,7 @@ ready_rest v w m r h =
       holds = h.holds;
       words = room_same v w m.start m.left h.alike.room r.words;
       spare = free_nodes_kept v w m.spare places (λ a i. subst (λ (l : List Spot). IsIn a l) (sym h.alike.met) i) r.spare;
+      last = last_known v w m.last places (λ a i. subst (λ (l : List Spot). IsIn a l) (sym h.alike.met) i) r.last;
     }
 
 pub some_by : {A : Type 0} (o : Option A) (x : A) → o ≡ Some x → (P : A → Type 0) → IfSome o P → P x
@@ -128,6 +145,7 @@ ready_given v w m start left count few r e =
       holds = ap (λ (z : Seen). z.holds) e ∙ r.holds;
       words = record { count = count; enough = few; is = ap (λ (z : Seen). z.room) e };
       spare = free_nodes_kept v w m.spare places (λ a i. subst (λ (l : List Spot). IsIn a l) (sym (ap (λ (z : Seen). z.client.met) e)) i) r.spare;
+      last = last_known v w m.last places (λ a i. subst (λ (l : List Spot). IsIn a l) (sym (ap (λ (z : Seen). z.client.met) e)) i) r.last;
     }
 
 -- and another caller is met
@@ -140,6 +158,7 @@ ready_met v w e m r {s} w_is e_is =
       holds = ap (λ (z : Seen). z.holds) w_is ∙ r.holds;
       words = room_same v w m.start m.left (ap (λ (z : Seen). z.room) w_is) r.words;
       spare = free_nodes_kept v w m.spare places (λ a i. subst (λ (l : List Spot). IsIn a l) (sym (ap (λ (z : View). z.met) client)) i) r.spare;
+      last = last_known v w m.last places (λ a i. subst (λ (l : List Spot). IsIn a l) (sym (ap (λ (z : View). z.met) client)) i) r.last;
     }
 
 -- a call that has its answer
@@ -154,3 +173,16 @@ made_call k b c s w f by book caller seen answers =
       seen = a.is ∙ ap (λ (h : List (Entry ℕ)). h ++ e ∷ []) a.fits.begins.1;
       own = ap (λ (z : ℕ). entries_of z w.client.seen) caller ∙ (ap (entries_of k.caller) a.is ∙ (entries-append k.caller a.whole (e ∷ []) ∙ (λ i. a.fits.own i ++ (ap (λ (z : ℕ). entries_of z (e ∷ [])) (sym (by k.caller)) ∙ its_own e) i)));
     }
+
+off_on : false ≡ true → ⊥
+off_on e = cc
+
+-- a call that was refused
+pub inserts_not : (q : Ask) (o : Result (Option ℕ) Refusal) (v w : Seen) → IsErr o → w.client.seen ≡ v.client.seen → Inserts q o v w
+inserts_not q (Ok found) v w is same = absurd (off_on is)
+inserts_not q (Err why) v w is same = same
+
+-- a call that goes on where its seat has seen no more
+pub inserts_from : (c d key value : ℕ) (o : Result (Option ℕ) Refusal) (u v w : Seen) → d ≡ c → v.client.seen ≡ u.client.seen → Inserts (ask d key value 1) o v w → Inserts (ask c key value 1) o u w
+inserts_from c d key value (Err why) u v w by same i = i ∙ same
+inserts_from c d key value (Ok found) u v w by same i = subst (λ (z : ℕ × List (Entry ℕ)). Answers z.0 (inserted (ask z.0 key value 1) found) z.1 w.client.seen) (λ t. (by t, same t)) i

@@ -6,6 +6,7 @@ use Rattle.live_law.specs.Views.{View, Ask, inserted}
 use Rattle.live_law.specs.Known.{Known}
 use Rattle.live_law.specs.Tree.{Answers}
 use Rattle.live_reads.specs.Paths.{KnowsRootWord}
+use Rattle.live_reads.specs.Positions.{KnowsLast}
 use Rattle.live_growth.specs.Rooms.{HasRoom}
 use Rattle.live_growth.specs.FreeNodes.{HasFreeNodes}
 use Rattle.live_growth.specs.declared.link.Room.{Room}
@@ -15,13 +16,15 @@ use Rattle.live_growth.specs.declared.map.Refusal.{Refusal}
 abbrev pub known_of : Book → ℕ → SeatView View → Known
 known_of b id v = record { book = b; caller = id; seen = v.client.seen }
 
--- A seat between two calls: it has nothing to itself but some room, and knows nodes that may be used again.
+-- A seat between two calls: it has nothing to itself but some room, and knows nodes that may be used again, and the leaf that it
+-- has come to last.
 pub record IsReady (v : SeatView View) (room : Room) : Type 0 where
   pub root_word : KnowsRootWord v
   pub own : v.client.own ≡ []
   pub holds : v.holds ≡ []
   pub words : HasRoom v room.start room.left
   pub spare : HasFreeNodes v room.spare
+  pub last : KnowsLast v room.last
 
 -- An insertion is done, or the seat has seen no more.
 abbrev pub Inserts : Ask → Result (Option ℕ) Refusal → SeatView View → SeatView View → Type 0

@@ -9,6 +9,57 @@ ghost use Rattle.live_growth.specs.FreeNodes.{IsSpare, slot_of, with_slot, HasFr
 use live_layout::form::{form_below, next_of};
 use node_base::base_node::NodeType;
 
+/// Some forms.
+#[derive(Clone, Copy, Debug, PartialEq, Eq)]
+pub struct Forms {
+    pub n4: bool,
+    pub n16: bool,
+    pub n48: bool,
+    pub n256: bool,
+}
+
+impl Forms {
+    /// No form.
+    pub fn none() -> Forms {
+        Forms {
+            n4: false,
+            n16: false,
+            n48: false,
+            n256: false,
+        }
+    }
+
+    /// Each form.
+    pub fn all() -> Forms {
+        Forms {
+            n4: true,
+            n16: true,
+            n48: true,
+            n256: true,
+        }
+    }
+
+    /// Whether this form is among them.
+    pub fn has(&self, form: NodeType) -> bool {
+        match form {
+            NodeType::N4 => self.n4,
+            NodeType::N16 => self.n16,
+            NodeType::N48 => self.n48,
+            NodeType::N256 => self.n256,
+        }
+    }
+
+    /// Adds a form.
+    pub fn add(&mut self, form: NodeType) {
+        match form {
+            NodeType::N4 => self.n4 = true,
+            NodeType::N16 => self.n16 = true,
+            NodeType::N48 => self.n48 = true,
+            NodeType::N256 => self.n256 = true,
+        }
+    }
+}
+
 // A name, or none where it is this one.
 fn other_than(kept: u64, name: u64) -> u64
     ensures same { kept ≡ name → result ≡ 0 }

@@ -14,7 +14,8 @@ use crate::room::spare_or_made;
 use crate::split::split;
 use crate::write::{Hindrance, insert_here};
 use live_layout::form::{form_below, next_of};
-use live_reads::descend::{End, Position, descend};
+use live_reads::descend::{End, Position, descend_from};
+use live_reads::last_leaf::LastLeaf;
 use live_reads::path::{Nodes, Seat};
 use live_reads::prefix_match::{Mismatch, enter};
 use std::alloc::{AllocError, Global};
@@ -179,7 +180,7 @@ pub fn reach<'a>(
         × Keeps seat.old.view seat.new.view
         × (seat.new.view.client.seen ≡ seat.old.view.client.seen) }
     ensures leaf { IfSome result (λ end. let here = end.here
-        in KnowsPosition seat.new.view key end.position
+        in KnowsPosition seat.new.view key end.position × (end.position.height ≡ 1)
         × IsOpen seat.new.view seat.new.book here.words.now here.taken end.position.name key 1) }
 {
     let here = enter(nodes, name, 1, key, seat)?;
@@ -221,11 +222,13 @@ fn insert_at(
     requires position { KnowsPosition seat.old.view key end.position }
     requires leaf { let here = end.here
         in IsOpen seat.old.view seat.old.book here.words.now here.taken end.position.name key 1 }
+    requires low { end.position.height ≡ 1 }
     ensures told { (seat.new.book ≡ seat.old.book) × (seat.new.id ≡ seat.old.id)
         × IsReady seat.new.view room.new
         × Inserts (ask seat.old.id key value 1) result seat.old.view seat.new.view }
 {
     let End { position, here, .. } = end;
+    room.last = LastLeaf { key, position };
     match insert_here::<Brand>(here, position.name, key, value, seat) {
         Ok(old) => Ok(old),
         Err(Hindrance::Full) => Err(refusal_of(enlarge(nodes, position, key, room, seat))),
@@ -234,7 +237,8 @@ fn insert_at(
 }
 
 /// Makes a node where the key's path leaves that of a node below. A node that may be used again is taken, where there is one, or one
-/// is made. Whether a node is lacking for that. A writer may have come in between, and the key be present: then it needs none.
+/// is made. Where the new node is. `Busy` where a writer came in between. `OutOfMemory` where a node is lacking for that: the key may
+/// be present by then, and need none.
 pub fn part(
     nodes: &Nodes,
     position: Position,
@@ -242,7 +246,7 @@ pub fn part(
     key: u64,
     room: &mut Room,
     seat: &mut Seat,
-) -> bool
+) -> Result<Position, Refusal>
     requires book { seat.old.book ≡ nodes.now }
     requires ready { IsReady seat.old.view room.old }
     requires position { KnowsPosition seat.old.view key position }
@@ -250,16 +254,18 @@ pub fn part(
     ensures told { (seat.new.book ≡ seat.old.book) × (seat.new.id ≡ seat.old.id)
         × IsReady seat.new.view room.new
         × (seat.new.view.client.seen ≡ seat.old.view.client.seen) }
+    ensures parted { IfOk result (λ below. KnowsPosition seat.new.view key below
+        × (2 ≤ below.height)) }
 {
     if room.lacks(room.spare_for_new(), NEW) {
-        return true;
+        return Err(Refusal::OutOfMemory);
     }
     let spare = spare_or_made(nodes, room.spare_for_new(), NEW, room, seat);
     if spare == 0 {
-        return false;
+        return Err(Refusal::Busy);
     }
     let Position { name, height, .. } = position;
-    let _ = split::<Brand>(
+    let parted = split::<Brand>(
         nodes,
         name,
         height,
@@ -269,12 +275,19 @@ pub fn part(
         &mut room.spare,
         seat,
     );
-    false
+    if !parted {
+        return Err(Refusal::Busy);
+    }
+    Ok(Position {
+        above: name,
+        level: height,
+        name: spare,
+        height: mismatch.at,
+    })
 }
 
 /// Gives a key a value in its new leaf, which is below the node at which the key's path has ended. `Busy` and `OutOfMemory` as by
 /// `insert_at`.
-#[inline(never)]
 fn insert_new(
     nodes: &Nodes,
     above: Position,
@@ -299,8 +312,31 @@ fn insert_new(
     insert_at(nodes, leaf, key, value, room, seat)
 }
 
+/// Makes a leaf for a key below the node at which the key's path has ended, and gives the key a value there. `Busy` and `OutOfMemory`
+/// as by `insert_at`.
+#[inline(never)]
+fn insert_below(
+    nodes: &Nodes,
+    above: Position,
+    key: u64,
+    value: u64,
+    room: &mut Room,
+    seat: &mut Seat,
+) -> Result<Option<u64>, Refusal>
+    requires book { seat.old.book ≡ nodes.now }
+    requires ready { IsReady seat.old.view room.old }
+    requires above { KnowsPosition seat.old.view key above }
+    requires inner { 2 ≤ above.height }
+    ensures told { (seat.new.book ≡ seat.old.book) × (seat.new.id ≡ seat.old.id)
+        × IsReady seat.new.view room.new
+        × Inserts (ask seat.old.id key value 1) result seat.old.view seat.new.view }
+{
+    let name = extend(nodes, above, key, room, seat)?;
+    insert_new(nodes, above, name, key, value, room, seat)
+}
+
 /// Inserts a value, or comes nearer to it by a node: `Busy`. So it is too where a writer came in between. `OutOfMemory` where
-/// a node is lacking.
+/// a node is lacking. A node where two paths part is made together with the key's leaf.
 fn insert_once(
     nodes: &Nodes,
     key: u64,
@@ -314,7 +350,7 @@ fn insert_once(
         × IsReady seat.new.view room.new
         × Inserts (ask seat.old.id key value 1) result seat.old.view seat.new.view }
 {
-    let Some(end) = descend(nodes, key, seat) else {
+    let Some(end) = descend_from(nodes, room.last, key, seat) else {
         return Err(Refusal::Busy);
     };
     let End {
@@ -323,11 +359,11 @@ fn insert_once(
         ..
     } = end;
     if let Some(mismatch) = mismatch {
-        return Err(refusal_of(part(nodes, position, mismatch, key, room, seat)));
+        let below = part(nodes, position, mismatch, key, room, seat)?;
+        return insert_below(nodes, below, key, value, room, seat);
     }
     if position.height > 1 {
-        let name = extend(nodes, position, key, room, seat)?;
-        return insert_new(nodes, position, name, key, value, room, seat);
+        return insert_below(nodes, position, key, value, room, seat);
     }
     insert_at(nodes, end, key, value, room, seat)
 }

@@ -10,7 +10,7 @@ ghost use Rattle.live_reads.specs.Paths.{Names, Sights};
 ghost use Rattle.live_growth.specs.FreeNodes.{HasFreeNodes};
 ghost use Rattle.live_growth.specs.Rooms.{HasGrown};
 
-use crate::free_nodes::FreeNodes;
+use crate::free_nodes::{Forms, FreeNodes};
 use crate::held::{lock_node, reclaim, unlock_again, unlock_same};
 use crate::write::Hindrance;
 use live_law::law::{Asks, MapLaw, MapView, Same};
@@ -21,6 +21,7 @@ use live_layout::search::find;
 use live_layout::words::{AsReadWords, WriteWords};
 use live_nodes::node;
 use live_nodes::rows::LockedWords;
+use live_reads::last_leaf::LastLeaf;
 use live_reads::path::{Nodes, Seat, byte_at, bytes_of, words_at};
 use node_base::base_node::NodeType;
 use std::marker::Brand;
@@ -30,7 +31,9 @@ pub const NEW: NodeType = NodeType::N4;
 
 /// A seat's room: the first of its words, how many there are at least, and nodes that it may use again. With it a key is kept
 /// whose path may lead to a node without children, since a writer came in between. `is_last` where there was no memory for more room
-/// when one was asked for: a larger node serves then for one that is lacking.
+/// when one was asked for: a larger node serves then for one that is lacking. `is_changed` where a node was made, used again or taken
+/// out since the room was last put in order, and `used` has the forms of which nodes were made or used again. `last` is the leaf that
+/// the seat has come to last.
 #[derive(Clone, Copy, Debug, PartialEq, Eq)]
 pub struct Room {
     pub start: u64,
@@ -38,6 +41,9 @@ pub struct Room {
     pub spare: FreeNodes,
     pub cleanup_due: Option<u64>,
     pub is_last: bool,
+    pub is_changed: bool,
+    pub used: Forms,
+    pub last: LastLeaf,
 }
 
 impl Room {

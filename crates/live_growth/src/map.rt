@@ -5,13 +5,14 @@ ghost use Rattle.live_law.specs.Views.{ask, got, inserted};
 ghost use Rattle.live_law.specs.Known.{MadeCall};
 ghost use Rattle.live_reads.specs.Meetings.{SeenMore};
 
-use crate::free_nodes::FreeNodes;
+use crate::free_nodes::{Forms, FreeNodes};
 use crate::insert::{reserve, try_insert};
 use crate::link::Room;
 use crate::make_root::make_root;
 use crate::refill::Refills;
 use live_nodes::heap::Heap;
 use live_reads::get::get_once;
+use live_reads::last_leaf::LastLeaf;
 use live_reads::meeting::meet;
 use live_reads::path::{Nodes, Seat};
 use std::alloc::{AllocError, Global};
@@ -113,6 +114,9 @@ impl Congee {
             spare: FreeNodes::none(),
             cleanup_due: None,
             is_last: false,
+            is_changed: false,
+            used: Forms::none(),
+            last: LastLeaf::none(),
         };
         let _ = reserve(&nodes, alloc, &mut room, &mut seat)?;
         if !make_root::<Brand>(&nodes, &mut room, &mut seat) {
@@ -149,6 +153,9 @@ impl Congee {
                 spare: FreeNodes::none(),
                 cleanup_due: None,
                 is_last: false,
+                is_changed: false,
+                used: Forms::none(),
+                last: LastLeaf::none(),
             },
         }
     }
@@ -161,7 +168,8 @@ impl Congee {
         ensures busy { OnErr result (guard.new ≡ guard.old) }
     {
         for _ in 0..TRIES {
-            if let Some(found) = get_once::<Brand>(&self.nodes, key, &mut guard.seat) {
+            let last = &mut guard.room.last;
+            if let Some(found) = get_once::<Brand>(&self.nodes, key, last, &mut guard.seat) {
                 return Ok(found);
             }
         }

@@ -72,6 +72,8 @@ pub fn spare_or_made(
     ensures grown { HasGrown seat.old.view seat.new.view }
     ensures sighted { 1 ≤ result → Sights seat.new.view result }
 {
+    room.is_changed = true;
+    room.used.add(form);
     if spare != 0 {
         return spare;
     }

@@ -1,5 +1,5 @@
 //! A key leaves the path of a node: a new node comes above that, where both paths part.
-ghost use Rattle.std.specs.Prelude.{◌≡◌, ◌≤◌, [], IsTrue};
+ghost use Rattle.std.specs.Prelude.{◌≡◌, ◌<◌, ◌≤◌, [], IsTrue};
 ghost use Rattle.live_nodes.specs.Seats.{SeatView};
 ghost use Rattle.live_law.specs.Views.{View};
 ghost use Rattle.live_reads.specs.Paths.{Names, Sights, Leaves};
@@ -45,6 +45,8 @@ pub fn split<A: Asks>(
     ensures free_nodes { (v : SeatView View) → HasFreeNodes v free_nodes.old → Sights v spare
         → HasFreeNodes v free_nodes.new }
     ensures gone { IsTrue result → 1 ≤ spare → Lacks free_nodes.new spare }
+    ensures parted { IsTrue result → (mismatch.at < height)
+        × Names seat.new.view spare key mismatch.at }
 {
     if mismatch.at >= height || mismatch.below >= 1 << 56 || spare >= 1 << 56 {
         return false;

@@ -5,6 +5,7 @@ use Rattle.live_nodes.proofs.Frames.{each_map}
 use Rattle.live_law.specs.Levels.{place_at}
 use Rattle.live_law.specs.Views.{View}
 use Rattle.live_reads.specs.Paths.{Sights, Keeps}
+use Rattle.live_reads.proofs.Stood.{last_known}
 use Rattle.live_growth.specs.Calls.{IsReady}
 use Rattle.live_growth.specs.declared.link.Room.{Room}
 use Rattle.live_pool.specs.Successions.{with_room, informed}
@@ -84,4 +85,5 @@ ready_after v w a b t m n r s ea eb et =
         }),
         (λ some. sights m.spare.more (r.spare.2 some)),
       );
+      last = last_known v u m.last (λ p h. in_first p v.places w.places h) (λ a h. in_first a v.client.met w.client.met h) r.last;
     }

@@ -31,14 +31,14 @@ impl Pool {
             (inserted (ask guard.old.caller key value 1) old) guard.new) }
         ensures refused { IfErr result (λ why. Refused guard.old key why guard.new) }
     {
-        let before = self.ready(guard);
+        self.ready(guard);
         let from = Supply { pool: self, alloc };
         match self.map.insert(&from, guard, key, value) {
             Ok(old) => {
-                self.settle(guard, before);
+                self.settle(guard);
                 Ok(old)
             }
-            Err(why) => Err(self.refuse(guard, before, key, why)),
+            Err(why) => Err(self.refuse(guard, key, why)),
         }
     }
 
@@ -49,9 +49,9 @@ impl Pool {
             (removed guard.old.caller key before) guard.new) }
         ensures busy { OnErr result (guard.new ≡ guard.old) }
     {
-        let before = self.begin(guard);
+        self.begin(guard);
         let done = calls::remove(&self.map, guard, key);
-        self.settle(guard, before);
+        self.settle(guard);
         done
     }
 
@@ -70,9 +70,9 @@ impl Pool {
         ensures stored { IfOk result (λ answer. IfOk answer (λ stored. stored ≡ new)) }
         ensures busy { OnErr result (guard.new ≡ guard.old) }
     {
-        let before = self.begin(guard);
+        self.begin(guard);
         let done = calls::compare_exchange(&self.map, guard, key, old, new);
-        self.settle(guard, before);
+        self.settle(guard);
         done
     }
 
@@ -89,14 +89,14 @@ impl Pool {
             (inserted_with guard.old.caller key found (unwrap_or found value)) guard.new) }
         ensures refused { IfErr result (λ why. Refused guard.old key why guard.new) }
     {
-        let before = self.ready(guard);
+        self.ready(guard);
         let from = Supply { pool: self, alloc };
         match present::get_or_insert(&self.map, &from, guard, key, value) {
             Ok(old) => {
-                self.settle(guard, before);
+                self.settle(guard);
                 Ok(old)
             }
-            Err(why) => Err(self.refuse(guard, before, key, why)),
+            Err(why) => Err(self.refuse(guard, key, why)),
         }
     }
 
@@ -113,14 +113,14 @@ impl Pool {
             (inserted_with guard.old.caller key before (sum_with before number)) guard.new) }
         ensures refused { IfErr result (λ why. Refused guard.old key why guard.new) }
     {
-        let before = self.ready(guard);
+        self.ready(guard);
         let from = Supply { pool: self, alloc };
         match present::add(&self.map, &from, guard, key, number) {
             Ok(old) => {
-                self.settle(guard, before);
+                self.settle(guard);
                 Ok(old)
             }
-            Err(why) => Err(self.refuse(guard, before, key, why)),
+            Err(why) => Err(self.refuse(guard, key, why)),
         }
     }
 
@@ -142,9 +142,9 @@ impl Pool {
             EndsWithCall F.step f.old pair.0 pair.1 f.new)) }
         ensures busy { OnErr result (guard.new ≡ guard.old) }
     {
-        let before = self.begin(guard);
+        self.begin(guard);
         let done = present::compute_if_present(&self.map, guard, key, f);
-        self.settle(guard, before);
+        self.settle(guard);
         done
     }
 
@@ -165,14 +165,14 @@ impl Pool {
             × EndsWithCall F.step f.old before new f.new) }
         ensures refused { IfErr result (λ why. Refused guard.old key why guard.new) }
     {
-        let before = self.ready(guard);
+        self.ready(guard);
         let from = Supply { pool: self, alloc };
         match present::compute_or_insert(&self.map, &from, guard, key, f) {
             Ok(old) => {
-                self.settle(guard, before);
+                self.settle(guard);
                 Ok(old)
             }
-            Err(why) => Err(self.refuse(guard, before, key, why)),
+            Err(why) => Err(self.refuse(guard, key, why)),
         }
     }
 }

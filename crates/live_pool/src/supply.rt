@@ -4,6 +4,7 @@ ghost use Rattle.live_growth.specs.Calls.{IsReady};
 
 use crate::free_list::take_from;
 use crate::pool::{FORMS, Pool, STRIPES};
+use live_growth::free_nodes::Forms;
 use live_growth::insert::make_room;
 use live_growth::link::Room;
 use live_growth::refill::Refills;
@@ -27,7 +28,7 @@ impl<'a> Refills for Supply<'a> {
 
     fn refill(&self, nodes: &Nodes, room: &mut Room, seat: &mut Seat) -> bool {
         let before = room.spare;
-        self.pool.supply(room, seat);
+        self.pool.supply(Forms::all(), room, seat);
         self.pool.supply_further(room, seat);
         if room.spare != before {
             return true;
@@ -37,8 +38,8 @@ impl<'a> Refills for Supply<'a> {
 }
 
 impl Pool {
-    /// A node of each form that the room has none of, if there is one, and a second one of the smallest.
-    pub(crate) fn supply(&self, room: &mut Room, seat: &mut Seat)
+    /// A node of each of these forms that the room has none of, if there is one, and a second one of the smallest.
+    pub(crate) fn supply(&self, forms: Forms, room: &mut Room, seat: &mut Seat)
         requires book { seat.old.book ≡ self.now }
         requires ready { IsReady seat.old.view room.old }
         ensures seat { (seat.new.book ≡ seat.old.book) × (seat.new.id ≡ seat.old.id) }
@@ -46,11 +47,11 @@ impl Pool {
         ensures seen { seat.new.view.client.seen ≡ seat.old.view.client.seen }
     {
         for form in FORMS {
-            if room.spare.get(form) == 0 {
+            if forms.has(form) && room.spare.get(form) == 0 {
                 self.supply_one(room, seat, form);
             }
         }
-        if room.spare.second == 0 {
+        if forms.n4 && room.spare.second == 0 {
             self.supply_one(room, seat, NodeType::N4);
         }
     }

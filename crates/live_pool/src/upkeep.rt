@@ -6,7 +6,7 @@ use crate::cleanup_queue;
 use crate::free_list::{FreeList, add_to};
 use crate::pool::{FORMS, Pool, STRIPES};
 use counted_slot::{Counted, FREE};
-use live_growth::link::Room;
+use live_growth::free_nodes::Forms;
 use live_growth::map::{Guard, Refusal};
 use live_layout::form::{form_below, place_of};
 use live_updates::absent::found_none;
@@ -35,63 +35,78 @@ fn owe(guard: &mut Guard, key: Option<u64>)
     guard.room.cleanup_due = key;
 }
 
+// The guard's room is in order: nothing has changed since.
+fn is_in_order(guard: &mut Guard)
+    ensures { guard.new ≡ guard.old }
+{
+    guard.room.is_changed = false;
+    guard.room.used = Forms::none();
+}
+
 impl Pool {
-    /// To be called before a call that may remove. What the guard has then.
-    pub fn begin(&self, guard: &mut Guard) -> Room
-        ensures { guard.new ≡ guard.old }
-    {
-        self.defer(guard);
-        guard.room
-    }
-
-    /// To be called before a call that may insert: a further node goes to the free list of its form. What the guard has then.
-    pub fn ready(&self, guard: &mut Guard) -> Room
-        requires map { guard.old.book ≡ self.now }
-        ensures { guard.new ≡ guard.old }
-    {
-        self.leave(guard);
-        guard.room
-    }
-
-    /// To be called after a call that may insert or remove, with what the guard had before it. The path that the guard has still to
-    /// tidy is tried. If it made nodes or took some out, so are up to two that others have deferred. Then one node too many goes to
-    /// a free list of its form, and of those forms that the guard has none of it gets one.
+    /// To be called before a call that may remove.
     #[inline(always)]
-    pub fn settle(&self, guard: &mut Guard, before: Room)
+    pub fn begin(&self, guard: &mut Guard)
+        ensures { guard.new ≡ guard.old }
+    {
+        if guard.room.cleanup_due.is_some() {
+            self.defer(guard);
+        }
+    }
+
+    /// To be called before a call that may insert: a further node goes to the free list of its form.
+    #[inline(always)]
+    pub fn ready(&self, guard: &mut Guard)
         requires map { guard.old.book ≡ self.now }
         ensures { guard.new ≡ guard.old }
     {
-        if guard.room != before || before.cleanup_due.is_some() {
-            self.put_in_order(guard, before);
+        if guard.room.spare.more != 0 {
+            self.leave(guard);
+        }
+    }
+
+    /// To be called after a call that may insert or remove. The path that the guard has still to tidy is tried. If the call made
+    /// nodes or took some out, so are up to two that others have deferred. Then one node too many goes to a free list of its form,
+    /// and of those forms that the call has used and the guard has none of it gets one.
+    #[inline(always)]
+    pub fn settle(&self, guard: &mut Guard)
+        requires map { guard.old.book ≡ self.now }
+        ensures { guard.new ≡ guard.old }
+    {
+        if guard.room.is_changed || guard.room.cleanup_due.is_some() {
+            self.put_in_order(guard);
         }
     }
 
     // What is left to be done after a call, as `settle` has it, where there may be something.
-    fn put_in_order(&self, guard: &mut Guard, before: Room)
+    #[inline(never)]
+    fn put_in_order(&self, guard: &mut Guard)
         requires map { guard.old.book ≡ self.now }
         ensures { guard.new ≡ guard.old }
     {
         if let Some(key) = guard.room.cleanup_due {
             let _ = self.tidy_path(guard, key);
         }
-        if guard.room == before {
+        if !guard.room.is_changed {
             return;
         }
+        let used = guard.room.used;
         self.tidy_earlier(guard);
         self.leave(guard);
-        self.supply(&mut guard.room, &mut guard.seat);
+        self.supply(used, &mut guard.room, &mut guard.seat);
+        is_in_order(guard);
     }
 
     /// To be called after an insertion that was refused, with why. It may have made a leaf before. Why it was refused then: it is
     /// out of memory where the key is found absent, and busy where the key is present, as a writer came in between.
-    pub fn refuse(&self, guard: &mut Guard, before: Room, key: u64, why: Refusal) -> Refusal
+    pub fn refuse(&self, guard: &mut Guard, key: u64, why: Refusal) -> Refusal
         requires map { guard.old.book ≡ self.now }
         ensures { Refused guard.old key result guard.new }
     {
-        if guard.room != before {
+        if guard.room.is_changed {
             let _ = self.tidy_path(guard, key);
         }
-        self.settle(guard, before);
+        self.settle(guard);
         if why == Refusal::OutOfMemory && found_none(&self.map, guard, key) {
             return Refusal::OutOfMemory;
         }

@@ -1,11 +1,11 @@
 -- The bytes of a key, and which of them another word has.
-use Rattle.std.proofs.Common.{◌≡◌, ◌≢◌, ℕ, zero, suc, ◌+◌, ◌-◌, ◌*◌, ◌/◌, ◌%◌, ◌^◌, ◌<◌, ◌≤◌, Bool, false, not, cond, List, [], ◌∷◌, length, get_or, eqb, map, w8, w64, refl, sym, ap, ◌∙◌, subst, arith, inl, inr}
-use Rattle.std.specs.Int.{bit_at, to_be_bytes}
+use Rattle.std.proofs.Common.{◌≡◌, ◌≢◌, ℕ, zero, suc, ◌+◌, ◌-◌, ◌*◌, ◌/◌, ◌%◌, ◌^◌, ◌<◌, ◌≤◌, Bool, false, not, cond, List, length, get_or, eqb, map, w8, w64, refl, sym, ap, ◌∙◌, subst, arith, inl, inr}
+use Rattle.std.specs.Int.{bit_at, to_be_bytes, to_le_bytes, swap_bytes}
 use Rattle.std.specs.Int.RustNames.{bit_and}
 use Rattle.std.specs.Int.Count.{count_trailing_zeros}
 use Rattle.std.specs.Simd.Lanes.{mask_l, zip2, top}
 use Rattle.std.proofs.Math.Nat.{div-one, div-div-eq-div-mul, mul-suc}
-use Rattle.std.proofs.lemmas.Nat.{pow-add, and_le_l}
+use Rattle.std.proofs.lemmas.Nat.{pow-add, and_le_l, le_bytes_8}
 use Rattle.std.proofs.lemmas.Nat.Bits.{bit_at-zero, bit_at-trailing_zeros}
 use Rattle.std.proofs.lemmas.Simd.{tops_compared, mask_l-mod, bit_mask_l, get_or-zip2}
 use Rattle.std.proofs.lemmas.Bool.{eq-eqb, ne_eqb, cases_eq}
@@ -36,6 +36,28 @@ seven key (suc (suc (suc (suc (suc zero))))) l h = moved key 2
 seven key (suc (suc (suc (suc (suc (suc zero)))))) l h = moved key 1
 seven key (suc (suc (suc (suc (suc (suc (suc zero))))))) l h = refl
 seven key (suc (suc (suc (suc (suc (suc (suc (suc i)))))))) l h = absurd (omega (arith, h))
+
+turned : (a b c d e f g h : ℕ) → a + b + c + d + e + f + g + h ≡ h + g + f + e + d + c + b + a
+turned a b c d e f g h = omega arith
+
+bytes_small : (n i : ℕ) → get_or (to_be_bytes w64 n) i 0 < 256
+bytes_small n zero = omega arith
+bytes_small n (suc zero) = omega arith
+bytes_small n (suc (suc zero)) = omega arith
+bytes_small n (suc (suc (suc zero))) = omega arith
+bytes_small n (suc (suc (suc (suc zero)))) = omega arith
+bytes_small n (suc (suc (suc (suc (suc zero))))) = omega arith
+bytes_small n (suc (suc (suc (suc (suc (suc zero)))))) = omega arith
+bytes_small n (suc (suc (suc (suc (suc (suc (suc zero))))))) = omega arith
+bytes_small n (suc (suc (suc (suc (suc (suc (suc (suc i)))))))) = omega arith
+
+-- a swapped number has the bytes in the other order
+swapped : (n : ℕ) → to_le_bytes w64 (swap_bytes w64 n) ≡ to_be_bytes w64 n
+swapped n = le_bytes_8 (to_be_bytes w64 n) (swap_bytes w64 n) refl (bytes_small n)
+    (turned (n % 256 * 72057594037927936) (n / 256 % 256 * 281474976710656) (n / 65536 % 256 * 1099511627776) (n / 16777216 % 256 * 4294967296) (n / 4294967296 % 256 * 16777216) (n / 1099511627776 % 256 * 65536) (n / 281474976710656 % 256 * 256) (n / 72057594037927936 % 256))
+
+pub swapped_bytes : (k m : ℕ) (ys : List ℕ) → m ≡ swap_bytes w64 k → ys ≡ to_le_bytes w64 m → ys ≡ to_be_bytes w64 k
+swapped_bytes k m ys is e = e ∙ (ap (to_le_bytes w64) is ∙ swapped k)
 
 abbrev pub differs : ℕ → ℕ → Bool
 differs a b = not (eqb a b)

@@ -1,10 +1,11 @@
 -- Where a call has come to on the path down.
-use Rattle.std.specs.Prelude.{ℕ, ◌<◌, ◌≤◌, Option, Some, None}
+use Rattle.std.specs.Prelude.{◌≡◌, ℕ, ◌<◌, ◌≤◌, Option, Some, None}
 use Rattle.live_nodes.specs.Seats.{SeatView}
 use Rattle.live_law.specs.Views.{View}
 use Rattle.live_reads.specs.declared.descend.Position.{Position}
 use Rattle.live_reads.specs.declared.prefix_match.Mismatch.{Mismatch}
 use Rattle.live_reads.specs.declared.descend.End.{End}
+use Rattle.live_reads.specs.declared.last_leaf.LastLeaf.{LastLeaf}
 use Rattle.live_reads.specs.Paths.{Names, Leaves}
 
 -- A node that has keys which begin like this one, and the node above it, but for the root.
@@ -23,3 +24,7 @@ HasMismatch v key height (Some f) = (2 ≤ height) × Leaves v f.below key f.at 
 
 abbrev pub IsEnd : SeatView View → ℕ → End → Type 0
 IsEnd v key e = KnowsPosition v key e.position × HasMismatch v key e.position.height e.mismatch
+
+-- The leaf that was come to last, if there is one.
+abbrev pub KnowsLast : SeatView View → LastLeaf → Type 0
+KnowsLast v l = 1 ≤ l.position.name → KnowsPosition v l.key l.position × (l.position.height ≡ 1)

@@ -1,34 +1,52 @@
 //! A look-up.
 ghost use Rattle.std.specs.Prelude.{◌≡◌, true};
 ghost use Rattle.live_reads.specs.Paths.{KnowsRootWord, Keeps, Found};
+ghost use Rattle.live_reads.specs.Positions.{KnowsLast};
 
+use crate::descend::{End, Position, begin};
+use crate::last_leaf::LastLeaf;
 use crate::mismatch::ends_above;
-use crate::path::{Nodes, Seat, look, open, root};
+use crate::path::{Nodes, Seat, look};
 use crate::prefix_match::{Next, step};
 use live_law::law::Asks;
 
-/// The value of a key. `None` where a writer came in between.
-pub fn get_once<A: Asks>(nodes: &Nodes, key: u64, seat: &mut Seat) -> Option<Option<u64>>
+/// The value of a key. The path begins at the leaf that the caller has come to last, or at the root. `None` where a writer came in
+/// between.
+pub fn get_once<A: Asks>(
+    nodes: &Nodes,
+    key: u64,
+    last: &mut LastLeaf,
+    seat: &mut Seat,
+) -> Option<Option<u64>>
     requires book { seat.old.book ≡ nodes.now }
     requires asks { (A.ask.key ≡ key) × (A.ask.caller ≡ seat.old.id) × (A.reads ≡ true) }
     requires root_word { KnowsRootWord seat.old.view }
+    requires last { KnowsLast seat.old.view last.old }
     ensures told { (seat.new.book ≡ seat.old.book) × (seat.new.id ≡ seat.old.id)
         × Keeps seat.old.view seat.new.view
         × Found A.ask result seat.old.view seat.new.view }
+    ensures last { KnowsLast seat.new.view last.new }
 {
-    let mut name = root(nodes, key, seat)?;
-    let mut height = 8usize;
-    let mut here = open(nodes, name, seat)?;
-    while height > 1 {
-        let step = step::<A>(nodes, here, name, height, key, seat)?;
+    let End {
+        mut position,
+        mut here,
+        ..
+    } = begin(nodes, *last, key, seat)?;
+    while position.height > 1 {
+        let step = step::<A>(nodes, here, position.name, position.height, key, seat)?;
         match step.next {
             Next::Ends => return Some(None),
-            Next::Goes(below, lower) => {
-                name = below;
-                height = lower;
+            Next::Goes(name, height) => {
+                position = Position {
+                    above: position.name,
+                    level: position.height,
+                    name,
+                    height,
+                };
                 here = step.here;
             }
             Next::Mismatches(mismatch) => {
+                let Position { name, height, .. } = position;
                 if ends_above::<A>(nodes, name, height, mismatch.below, key, seat) {
                     return Some(None);
                 }
@@ -36,5 +54,6 @@ pub fn get_once<A: Asks>(nodes: &Nodes, key: u64, seat: &mut Seat) -> Option<Opt
             }
         }
     }
-    look::<A>(here, name, 1, key, seat)
+    *last = LastLeaf { key, position };
+    look::<A>(here, position.name, 1, key, seat)
 }

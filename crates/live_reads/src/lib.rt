@@ -7,6 +7,7 @@
 //! - `path`: the root, and a node that is opened and looked up
 //! - `prefix_match`: a step down
 //! - `descend`: the path to where a key is, or would be
+//! - `last_leaf`: the leaf that a caller has come to last
 //! - `get`: a key's value
 //! - `meeting`: two callers meet
 //!
@@ -15,6 +16,7 @@
 
 pub mod descend;
 pub mod get;
+pub mod last_leaf;
 pub mod meeting;
 pub mod mismatch;
 pub mod path;

@@ -63,7 +63,7 @@ fn other_lanes(head: u64, key: u64) -> u64
 {
     let lanes = u8x8::from_array(head.to_le_bytes());
     lanes
-        .simd_ne(u8x8::from_array((key >> 8).to_be_bytes()))
+        .simd_ne(u8x8::from_array((key >> 8).swap_bytes().to_le_bytes()))
         .to_bitmask()
 }
 

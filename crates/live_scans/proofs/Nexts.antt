@@ -1,5 +1,5 @@
 -- The path on from a key below a node.
-use Rattle.std.proofs.Common.{◌≡◌, ◌≢◌, ◌⊎◌, ℕ, zero, suc, ◌+◌, ◌-◌, ◌*◌, ◌%◌, ◌<◌, ◌≤◌, ◌^◌, Bool, true, false, cond, nat_eq, List, [], ◌∷◌, take, drop, Option, Some, None, refl, sym, ap, ◌∙◌, subst, inl, inr, arith, eq-eqb, ne_eqb, append-nil}
+use Rattle.std.proofs.Common.{◌≡◌, ◌≢◌, ◌⊎◌, ℕ, zero, suc, ◌+◌, ◌-◌, ◌*◌, ◌/◌, ◌%◌, ◌<◌, ◌≤◌, ◌^◌, Bool, true, false, cond, nat_eq, List, [], ◌∷◌, take, drop, Option, Some, None, refl, sym, ap, ◌∙◌, subst, inl, inr, arith, eq-eqb, ne_eqb, append-nil}
 use mathlib.Core.Logic.{dite}
 use native.Mathlib.Decide.{ℕ_discrete}
 use Rattle.std.proofs.lemmas.Option.{same_Some, none-some}
@@ -26,6 +26,8 @@ use Rattle.live_law.proofs.Looks.{node_below, HadBelow}
 use Rattle.live_law.proofs.Plans.{digit-low}
 use Rattle.live_reads.specs.Paths.{Names, Sights, HasOpened, IsOpen, Keeps}
 use Rattle.live_reads.specs.Sees.{Sees}
+use Rattle.live_reads.specs.Positions.{KnowsPosition}
+use Rattle.live_reads.specs.declared.last_leaf.LastLeaf.{LastLeaf}
 use Rattle.live_reads.specs.declared.prefix_match.PrefixMatch.TheVariants as prefix_matches
 use Rattle.live_reads.proofs.Views.{reading_on, reading_on_keeps, learned_keeps, open_read, may_check_open, open_checked, open_missed, may_look, look_missed, look_ends, may_meet, meet_missed, meet_head, same_named}
 use Rattle.live_reads.proofs.Sights.{sights_kept, covers_by}
@@ -679,6 +681,19 @@ visited_to c id u v w key s d limit start buffer o is seen read low seam t e =
 
 pub position_on : (v w : Seen) (s : Position) → Keeps v w → IsPosition v s → IsPosition w s
 position_on v w s keeps i = (i.0, i.1, names_kept v w s.name s.key s.height keeps i.2)
+
+-- the leaf that was come to last, by a part of it
+pub leaf_at : (up : Bool) (w : Seen) (l : LastLeaf) (key base first last : ℕ) → KnowsPosition w l.key l.position × (l.position.height ≡ 1) → l.key / 256 ≡ key / 256 → base % 256 ≡ 0 → base + cond up first last ≡ key → first ≤ last → last ≤ 255 → Names w l.position.name (base + first) 1
+leaf_at true w l key base first last k same whole is order high = names_as w l.position.name l.key (base + first) 1 (omega (arith, same, is)) (subst (λ h. Names w l.position.name l.key h) k.1 k.0.named)
+leaf_at false w l key base first last k same whole is order high = names_as w l.position.name l.key (base + first) 1 (omega (arith, same, whole, is, order, high)) (subst (λ h. Names w l.position.name l.key h) k.1 k.0.named)
+
+-- and the node above it
+pub position_above : (w : Seen) (l : LastLeaf) → KnowsPosition w l.key l.position × (l.position.height ≡ 1) → IsPosition w (record { name = l.position.above; height = l.position.level; key = l.key })
+position_above w l k =
+    let low : l.position.height < 8 = omega (arith, k.1) in
+    let lower = k.0.lower low in
+    let one = k.1 in
+    (omega (arith, lower, one), k.0.level, k.0.upper low)
 
 -- the leaf of a key, by a part of it
 pub leaf_named : (w : Seen) (key name base first last : ℕ) → Names w name key 1 → base % 256 ≡ 0 → base + last ≡ key → first ≤ last → last ≤ 255 → Names w name (base + first) 1

@@ -1,5 +1,5 @@
 -- Nodes on a reader's path, whose words are known.
-use Rattle.std.proofs.Common.{◌≡◌, ℕ, ◌%◌, ◌≤◌, List, [], IfSome, sym, ap, ◌∙◌, subst}
+use Rattle.std.proofs.Common.{◌≡◌, ℕ, ◌%◌, ◌≤◌, List, [], Option, IfSome, sym, ap, ◌∙◌, subst}
 use Rattle.word_book.specs.Book.{Book, Name, reads, none_joined}
 use Rattle.live_nodes.specs.Nodes.{Content}
 use Rattle.live_nodes.specs.Seats.{SeatView, IsIn, Agree}
@@ -11,9 +11,10 @@ use Rattle.live_law.specs.Views.{View}
 use Rattle.live_reads.specs.Paths.{Names, HasOpened, IsOpen, Keeps}
 use Rattle.live_reads.proofs.Views.{reading, reading_keeps, reading_on_keeps, open_read, if_some}
 use Rattle.live_reads.proofs.Finds.{keeps_then, names_kept}
-use Rattle.live_scans.specs.inner.Stops.{HasWords, IsPathNode}
+use Rattle.live_scans.specs.inner.Stops.{HasWords, IsPathNode, IsTrail}
 use Rattle.live_scans.specs.declared.position.Position.{Position}
 use Rattle.live_scans.specs.declared.position.PathNode.{PathNode}
+use Rattle.live_scans.specs.declared.position.Trail.{Trail}
 use Rattle.live_scans.proofs.Nexts.{position_on}
 
 abbrev Seen : Type 0
@@ -29,6 +30,9 @@ known_kept v w b b' s words head keeps book k = record {
 
 pub path_node_kept : (v w : Seen) (b b' : Book) (s : PathNode) → Keeps v w → b' ≡ b → IsPathNode v b s → IsPathNode w b' s
 path_node_kept v w b b' s keeps book i = (position_on v w s.at keeps i.0, if_some s.known (λ k x. known_kept v w b b' s.at k.words.now k.head keeps book x) i.1)
+
+pub trail_kept : (o : Option Trail) (v w : Seen) (b b' : Book) → b' ≡ b → Keeps v w → IfSome o (IsTrail v b) → IfSome o (IsTrail w b')
+trail_kept o v w b b' book keeps i = if_some o (λ t x. (path_node_kept v w b b' t.low keeps book x.0, path_node_kept v w b b' t.high keeps book x.1)) i
 
 -- BY ANOTHER KEY
 names_like : (v : Seen) (p q : Position) → q.name ≡ p.name → q.height ≡ p.height → up p.height q.key ≡ up p.height p.key → Names v p.name p.key p.height → Names v q.name q.key q.height

@@ -10,11 +10,12 @@ ghost use Rattle.live_scans.specs.inner.Steps.{Counts};
 pub mod laws;
 
 use crate::bound::{Bound, key_after};
-use crate::page::read_on;
+use crate::page::{Onward, read_on};
 use crate::position::{PathNode, Position, Trail};
 use crate::scans::ceiling;
 use crate::seek::start;
 use live_growth::map::{Busy, Congee, Guard};
+use live_reads::last_leaf::LastLeaf;
 use live_reads::path::{Nodes, Seat};
 
 // How many pairs there are, from a position on. `None` where too many writers came in between.
@@ -42,7 +43,9 @@ fn count_all(nodes: &Nodes, position: Position, seat: &mut Seat) -> Option<u128>
     };
     let mut at = Some(Trail { low, high: low });
     loop {
-        let stepped = read_on(nodes, at, from, bound, &mut leaf, 0, seat)?;
+        let last = LastLeaf::none();
+        let onward = Onward { trail: at, last };
+        let stepped = read_on(nodes, onward, from, bound, &mut leaf, 0, seat)?;
         let step = stepped.step;
         count += step.count as u128;
         if step.last == bound.limit {

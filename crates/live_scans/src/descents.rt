@@ -43,7 +43,16 @@ pub fn range_descending<P: RangeEntry>(
         up: false,
         limit: first,
     };
-    let Some(step) = page(&map.nodes, position, last, bound, buffer, &mut guard.seat) else {
+    let leaf = guard.room.last;
+    let Some(step) = page(
+        &map.nodes,
+        position,
+        leaf,
+        last,
+        bound,
+        buffer,
+        &mut guard.seat,
+    ) else {
         return Err(Busy);
     };
     Ok(step.count)

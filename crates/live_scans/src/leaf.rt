@@ -1,5 +1,5 @@
 //! The step of a reader at a leaf.
-ghost use Rattle.std.specs.Prelude.{◌≡◌, ◌≢◌, ◌+◌, ◌%◌, ◌<◌, ◌≤◌, ◌^◌, false, cond, length, take, drop, IfSome};
+ghost use Rattle.std.specs.Prelude.{◌≡◌, ◌≢◌, ◌+◌, ◌%◌, ◌<◌, ◌≤◌, ◌^◌, cond, length, take, drop, IfSome};
 ghost use Rattle.live_layout.specs.Page.{pairs_of};
 ghost use Rattle.live_reads.specs.Paths.{Names, Keeps};
 ghost use Rattle.live_scans.specs.inner.Directions.{low_of, high_of, ascending};
@@ -58,10 +58,11 @@ pub fn read_leaf<A: Asks, P: RangeEntry>(
     Some(filled)
 }
 
-/// Writes a part of a leaf into a buffer, from a place there on, downwards. `None` where a writer came in between.
+/// Writes a part of a leaf into a buffer, from a place there on, upwards (`true`) or downwards. `None` where a writer came in between.
 pub fn leaf_page<A: Asks, P: RangeEntry>(
     nodes: &Nodes,
     name: u64,
+    up: bool,
     part: Part,
     buffer: &mut [P],
     start: usize,
@@ -76,16 +77,16 @@ pub fn leaf_page<A: Asks, P: RangeEntry>(
         ≡ take start (pairs_of P.pair buffer.old) }
     ensures filled { IfSome result (λ f. (start ≤ f.count) × (f.count ≤ length buffer.old)
         × (part.first ≤ f.reached) × (f.reached ≤ part.last)
-        × (f.reached ≢ part.first → f.count ≡ length buffer.old)) }
+        × (f.reached ≢ cond up part.last part.first → f.count ≡ length buffer.old)) }
     ensures book { seat.new.book ≡ seat.old.book }
     ensures id { seat.new.id ≡ seat.old.id }
     ensures keeps { Keeps seat.old.view seat.new.view }
     ensures seen { SeesMore seat.new.view.client.seen seat.old.id seat.old.view.client.seen }
-    ensures reads { IfSome result (λ f. let from = part.base + part.last
+    ensures reads { IfSome result (λ f. let from = part.base + cond up part.first part.last
         in let to = part.base + f.reached
-        in Reads false seat.old.id seat.old.view seat.new.view (low_of false from to) (high_of false from to)
-        (ascending false (drop start (take f.count (pairs_of P.pair buffer.new))))) }
+        in Reads up seat.old.id seat.old.view seat.new.view (low_of up from to) (high_of up from to)
+        (ascending up (drop start (take f.count (pairs_of P.pair buffer.new))))) }
 {
     let leaf = enter(nodes, name, 1, part.base + part.first as u64, seat)?;
-    read_leaf::<A, P>(leaf, name, false, part, buffer, start, seat)
+    read_leaf::<A, P>(leaf, name, up, part, buffer, start, seat)
 }

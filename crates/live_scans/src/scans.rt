@@ -54,7 +54,16 @@ pub fn range_inclusive<P: RangeEntry>(
         up: true,
         limit: last,
     };
-    let Some(step) = page(&map.nodes, position, first, bound, buffer, &mut guard.seat) else {
+    let leaf = guard.room.last;
+    let Some(step) = page(
+        &map.nodes,
+        position,
+        leaf,
+        first,
+        bound,
+        buffer,
+        &mut guard.seat,
+    ) else {
         return Err(Busy);
     };
     Ok(step.count)

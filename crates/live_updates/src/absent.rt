@@ -16,7 +16,8 @@ pub fn found_none(map: &Congee, guard: &mut Guard, key: u64) -> bool
     ensures other { result ≡ false → guard.new ≡ guard.old }
 {
     for _ in 0..TRIES {
-        match seek::<Brand>(&map.nodes, key, &mut guard.seat) {
+        let last = &mut guard.room.last;
+        match seek::<Brand>(&map.nodes, key, last, &mut guard.seat) {
             Some(Site::Absent) => return true,
             Some(Site::At(_, _)) => return false,
             None => {}

@@ -36,7 +36,7 @@ fn remove_once(nodes: &Nodes, key: u64, room: &mut Room, seat: &mut Seat) -> Opt
         × EndsBy seat.old.id (option_map (removed seat.old.id key) result)
         seat.old.view seat.new.view }
 {
-    match seek::<Brand>(nodes, key, seat)? {
+    match seek::<Brand>(nodes, key, &mut room.last, seat)? {
         Site::Absent => Some(None),
         Site::At(leaf, value) => {
             if exchange_here::<Brand>(nodes, leaf, key, Some(value), None, room, seat).is_some() {
@@ -65,7 +65,7 @@ fn exchange_once<X: Swaps>(
         seat.old.view seat.new.view }
     ensures stored { IfSome result (λ answer. IfOk answer (λ stored. stored ≡ new)) }
 {
-    match seek::<Brand>(nodes, key, seat)? {
+    match seek::<Brand>(nodes, key, &mut room.last, seat)? {
         Site::Absent => Some(Err(None)),
         Site::At(leaf, value) => {
             if value != old {

@@ -1,6 +1,7 @@
 //! A look-up of a key, which may end a call: the key's value, and its leaf.
 ghost use Rattle.std.specs.Prelude.{◌≡◌, ◌≤◌, IfSome};
 ghost use Rattle.live_reads.specs.Paths.{KnowsRootWord, Sights, IsOpen, Keeps};
+ghost use Rattle.live_reads.specs.Positions.{KnowsLast};
 ghost use Rattle.live_updates.specs.inner.Lookups.{IsLookup, MaySight, Found, Lacks, Sought, IsOpenWith};
 
 use live_law::law::{MapLaw, MapView};
@@ -9,7 +10,8 @@ use live_layout::search::find;
 use live_nodes::node;
 use live_nodes::plays::OnCheck;
 use live_nodes::rows::SharedWords;
-use live_reads::descend::{End, Position, descend};
+use live_reads::descend::{End, Position, descend_from};
+use live_reads::last_leaf::LastLeaf;
 use live_reads::mismatch::watch;
 use live_reads::path::{Nodes, Opened, Seat, byte_at};
 use live_reads::prefix_match::enter;
@@ -182,26 +184,35 @@ fn absent_at<'a, Q: Lookups>(
     None
 }
 
-/// Where a key is: its leaf is open. The call has ended there, if it ends by what was found. `None` where a writer came in
-/// between.
+/// Where a key is: its leaf is open. The call has ended there, if it ends by what was found. The path begins at the leaf that the
+/// caller has come to last, or at the root. `None` where a writer came in between.
 #[inline(always)]
-pub fn seek<'a, Q: Lookups>(nodes: &'a Nodes, key: u64, seat: &mut Seat) -> Option<Site<'a>>
+pub fn seek<'a, Q: Lookups>(
+    nodes: &'a Nodes,
+    key: u64,
+    last: &mut LastLeaf,
+    seat: &mut Seat,
+) -> Option<Site<'a>>
     requires book { seat.old.book ≡ nodes.now }
     requires asks { (Q.lookup.key ≡ key) × (Q.lookup.caller ≡ seat.old.id) }
     requires legal { IsLookup Q.lookup }
     requires root_word { KnowsRootWord seat.old.view }
+    requires last { KnowsLast seat.old.view last.old }
     ensures told { (seat.new.book ≡ seat.old.book) × (seat.new.id ≡ seat.old.id)
         × Keeps seat.old.view seat.new.view
         × Sought Q.lookup seat.new.book result seat.old.view seat.new.view }
+    ensures last { KnowsLast seat.new.view last.new }
 {
-    let end = descend(nodes, key, seat)?;
-    let Position { name, height, .. } = end.position;
+    let end = descend_from(nodes, *last, key, seat)?;
+    let position = end.position;
+    let Position { name, height, .. } = position;
     if let Some(mismatch) = end.mismatch {
         return absent_at::<Q>(nodes, name, height, Some(mismatch.below), key, seat);
     }
     if height > 1 {
         return absent_at::<Q>(nodes, name, height, None, key, seat);
     }
+    *last = LastLeaf { key, position };
     match ends_in::<Q>(end.here, name, key, seat)? {
         Some(value) => Some(Site::At(end, value)),
         None => Some(Site::Absent),

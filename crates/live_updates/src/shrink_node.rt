@@ -216,6 +216,8 @@ fn shrink_end(nodes: &Nodes, name: u64, spare: u64, key: u64, room: &mut Room, s
     if position.name != name || mismatch.is_some() || position.height >= 8 {
         return;
     }
+    room.is_changed = true;
+    room.used.add(form_below(spare));
     if shrink_node::<Brand>(nodes, position, key, spare, &mut room.spare, seat) {
         let _ = room.spare.keep(position.name);
     }

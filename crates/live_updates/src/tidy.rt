@@ -46,6 +46,7 @@ fn keep_taken(nodes: &Nodes, taken: Taken, key: u64, room: &mut Room, seat: &mut
         × IsReady seat.new.view room.new
         × (seat.new.view.client.seen ≡ seat.old.view.client.seen) }
 {
+    room.is_changed = true;
     let _ = room.spare.keep(taken.name);
     if taken.left == Fill::Empty {
         return true;

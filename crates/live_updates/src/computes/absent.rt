@@ -14,7 +14,7 @@ use live_growth::insert::{enlarge, extend, part, reach};
 use live_growth::link::Room;
 use live_growth::map::{Refusal, TRIES};
 use live_growth::refill::Refills;
-use live_reads::descend::{End, Position, descend};
+use live_reads::descend::{End, Position, descend_from};
 use live_reads::path::{Nodes, Seat};
 
 /// How a try ends: the key has the value, it has another one already, it is to be tried again, or a node is lacking.
@@ -65,7 +65,6 @@ fn enter_at<U: Updates>(
 }
 
 /// Gives an absent key a value in its new leaf, which is below the node at which the key's path has ended.
-#[inline(never)]
 fn enter_new<U: Updates>(
     nodes: &Nodes,
     above: Position,
@@ -93,7 +92,34 @@ fn enter_new<U: Updates>(
     enter_at::<U>(nodes, leaf, key, value, room, seat)
 }
 
-/// Gives an absent key a value, or comes nearer to it by a node.
+/// Makes a leaf for an absent key below the node at which the key's path has ended, and gives the key a value there.
+#[inline(never)]
+fn enter_below<U: Updates>(
+    nodes: &Nodes,
+    above: Position,
+    key: u64,
+    value: u64,
+    room: &mut Room,
+    seat: &mut Seat,
+) -> Tried
+    requires book { seat.old.book ≡ nodes.now }
+    requires asks { (U.update.key ≡ key) × (U.update.caller ≡ seat.old.id) }
+    requires values { (U.update.old ≡ None) × (U.update.new ≡ Some value) }
+    requires legal { IsUpdate U.update }
+    requires ready { IsReady seat.old.view room.old }
+    requires above { KnowsPosition seat.old.view key above }
+    requires inner { 2 ≤ above.height }
+    ensures told { (seat.new.book ≡ seat.old.book) × (seat.new.id ≡ seat.old.id)
+        × IsReady seat.new.view room.new
+        × Tries U.update result seat.old.view seat.new.view }
+{
+    match extend(nodes, above, key, room, seat) {
+        Ok(name) => enter_new::<U>(nodes, above, name, key, value, room, seat),
+        Err(refusal) => tried_with(refusal == Refusal::OutOfMemory),
+    }
+}
+
+/// Gives an absent key a value, or comes nearer to it by a node. A node where two paths part is made together with the key's leaf.
 fn enter_once<U: Updates>(
     nodes: &Nodes,
     key: u64,
@@ -110,7 +136,7 @@ fn enter_once<U: Updates>(
         × IsReady seat.new.view room.new
         × Tries U.update result seat.old.view seat.new.view }
 {
-    let Some(end) = descend(nodes, key, seat) else {
+    let Some(end) = descend_from(nodes, room.last, key, seat) else {
         return Tried::Again;
     };
     let End {
@@ -119,13 +145,13 @@ fn enter_once<U: Updates>(
         ..
     } = end;
     if let Some(mismatch) = mismatch {
-        return tried_with(part(nodes, position, mismatch, key, room, seat));
-    }
-    if position.height > 1 {
-        return match extend(nodes, position, key, room, seat) {
-            Ok(name) => enter_new::<U>(nodes, position, name, key, value, room, seat),
+        return match part(nodes, position, mismatch, key, room, seat) {
+            Ok(below) => enter_below::<U>(nodes, below, key, value, room, seat),
             Err(refusal) => tried_with(refusal == Refusal::OutOfMemory),
         };
+    }
+    if position.height > 1 {
+        return enter_below::<U>(nodes, position, key, value, room, seat);
     }
     enter_at::<U>(nodes, end, key, value, room, seat)
 }

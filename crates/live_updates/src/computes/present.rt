@@ -39,7 +39,7 @@ fn present_once<F: FnMut(u64) -> Option<u64>>(
     ensures asked { IfSome result (λ both. IfSome both (λ pair.
         EndsWithCall F.step f.old pair.0 pair.1 f.new)) }
 {
-    match seek::<Brand>(nodes, key, seat)? {
+    match seek::<Brand>(nodes, key, &mut room.last, seat)? {
         Site::Absent => Some(None),
         Site::At(leaf, value) => {
             let new = f(value);
@@ -72,7 +72,7 @@ fn always_once<F: FnMut(Option<u64>) -> u64, R: Refills>(
         × Stores seat.old.id key (λ before new. EndsWithCall F.step f.old before new f.new) result
         seat.old.view seat.new.view }
 {
-    match seek::<Brand>(nodes, key, seat) {
+    match seek::<Brand>(nodes, key, &mut room.last, seat) {
         Some(Site::At(leaf, value)) => {
             let new = f(Some(value));
             if update_here::<Brand>(leaf, key, Some(value), Some(new), seat).is_some() {
@@ -108,7 +108,7 @@ fn keep_once<R: Refills>(
         × Stores seat.old.id key (λ found new. new ≡ unwrap_or found value) result
         seat.old.view seat.new.view }
 {
-    match seek::<Brand>(nodes, key, seat) {
+    match seek::<Brand>(nodes, key, &mut room.last, seat) {
         Some(Site::At(_leaf, found)) => Ok(Some(Some(found))),
         Some(Site::Absent) => {
             if !enter::<Brand, R>(nodes, from, key, value, room, seat)? {
@@ -137,7 +137,7 @@ fn add_once<R: Refills>(
         × Stores seat.old.id key (λ before new. new ≡ sum_with before number) result
         seat.old.view seat.new.view }
 {
-    match seek::<Brand>(nodes, key, seat) {
+    match seek::<Brand>(nodes, key, &mut room.last, seat) {
         Some(Site::At(leaf, value)) => {
             let new = value.wrapping_add(number);
             if update_here::<Brand>(leaf, key, Some(value), Some(new), seat).is_some() {

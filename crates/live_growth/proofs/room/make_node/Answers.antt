@@ -20,4 +20,4 @@ returns-clause-ready c =
     let words = c.make-name.ensures.room room.left ready.words enough in
     let left = room_after w w (room.start + words_of form + 1) (room.left - (words_of form + 1)) (room.start + (c.words_in-count.result + 1)) (room.left - (c.words_in-count.result + 1)) refl (omega (arith, n)) (omega (arith, n)) words in
     let spare = c.keep.ensures.kept w (free_nodes_grown v w room.spare grown ready.spare) (made_sighted v w form c.make-name.result made) in
-    ready_with v w room (record room { start = room.start + (c.words_in-count.result + 1); left = room.left - (c.words_in-count.result + 1); spare = c.keep.new.self }) ready grown left spare
+    ready_with v w room (record room { start = room.start + (c.words_in-count.result + 1); left = room.left - (c.words_in-count.result + 1); spare = c.keep.new.self }) ready grown left spare refl

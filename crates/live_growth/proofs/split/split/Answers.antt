@@ -20,7 +20,7 @@ use Rattle.live_reads.proofs.Views.{first_word}
 use Rattle.live_growth.proofs.Locks.{taken_by, holds_one, may_hold, draft_is}
 use Rattle.live_growth.proofs.Grips.{Grips, grip_frees, grip_freed}
 use Rattle.live_growth.proofs.Pairs.{Pair, pair_first, pair_second, first_draft, second_draft, pair_wrote, pair_frees, pair_freed, change_done, grown_changes, at_result}
-use Rattle.live_growth.proofs.Again.{pair_reclaimed, pair_keeps, pair_filled, again_split, again_grown_on, first_frees, first_freed}
+use Rattle.live_growth.proofs.Again.{pair_reclaimed, pair_keeps, pair_filled, again_split, again_names, again_grown_on, first_frees, first_freed}
 use Rattle.live_growth.proofs.split.split.Given.{Over}
 use Rattle.live_growth.proofs.split.split.Goals as goal
 use Rattle.live_growth.proofs.split.split.Goals.{In-Some-lock_node, In-Some-reclaim, After-parts, After-put, After-change, After-unlock_again, After-retire}
@@ -398,4 +398,19 @@ returns-clause-told g c =
       e.1 ∙ (c.unlock_again.ensures.seat.1 ∙ (ap (λ s. s.id) pr ∙ (ap (λ s. s.id) mr ∙ (ap (λ s. s.id) fr ∙ (c.parts.ensures.told.1 ∙ back_id g b))))),
       grown,
       ap (λ (v : Seen). v.room) fx.1 ∙ (ap (λ (v : Seen). v.room) l.1 ∙ room),
+    )
+
+pub returns-clause-parted : goal.returns-clause-parted
+returns-clause-parted g c =
+    let u = (goal.at.returns-clause-parted g c).After-unlock_again in
+    let k = led g u in
+    let b = held_of g k in
+    let l = linked g u in
+    let at_r = (first_word (place_at (r_of g k)) c.unlock_again.new.seat.book c.in-Some-words_at.others.now (grip g u).are c.index-others-0-2.result c.index-others-0-2.result (sym c.index-others-0-2.is)).0 in
+    let fx = grip_freed c.unlock_again.new.seat.view c.unlock_again.new.seat.book c.in-Some-words_at.others.now c.in-Some-reclaim.back (place_at (r_of g k)) (dr g k) (grip g u) c.index-others-0-2.result.key at_r StaysSame c.unlock.new.seat.view (c.in-Some-reclaim.back + 4) c.unlock.ensures.told in
+    let inside = c.if-mismatch-height.false in
+    λ _. (
+      omega (arith, inside),
+      again_names c.change.new.seat.view c.unlock_again.new.seat.view c.unlock.new.seat.view l.0 fx.0 g.A.Asks.ask (cr g k) (r_of g k) (a_of g k) (ca g b) (hold (r_of g k).number (c.in-Some-reclaim.back + 2) (dr g k) ∷ []) c.args.key c.args.mismatch.at c.args.spare
+          (wrote g k).placed_x (back g b).named c.requires.asks.0 c.requires.asks.1 (all_own g k) l.1 l.2 fx.1 fx.2,
     )

@@ -26,6 +26,9 @@ loop-stepped-init c =
       trail = ((c.requires.position, tt), (c.requires.position, tt));
     }
 
+pub read_on-requires-clause-last : goal.read_on-requires-clause-last
+read_on-requires-clause-last c = c.none-last.ensures c.loop-stepped.seat.view
+
 pub read_on-requires-clause-root_word : goal.read_on-requires-clause-root_word
 read_on-requires-clause-root_word c = c.loop-stepped.invariant.keeps.places (place 0 1 1) c.requires.root_word
 

@@ -1,4 +1,4 @@
-use Rattle.std.proofs.Common.{false, ◌+◌, take, drop}
+use Rattle.std.proofs.Common.{cond, ◌+◌, take, drop}
 use Rattle.live_layout.specs.Page.{pairs_of}
 use Rattle.live_reads.proofs.Finds.{keeps_then}
 use Rattle.live_reads.proofs.Views.{if_some}
@@ -28,6 +28,6 @@ returns-clause-reads g c =
     let u = c.args.seat.now.view in
     let v = c.enter.new.seat.view in
     let id = c.args.seat.now.id in
-    let from = c.args.part.base + c.args.part.last in
+    let from = c.args.part.base + cond c.args.up c.args.part.first c.args.part.last in
     if_some c.read_leaf.result (λ f r. let to = c.args.part.base + f.reached in
-    reads_since false c.enter.new.seat.id id u v c.read_leaf.new.seat.view (low_of false from to) (high_of false from to) (ascending false (drop c.args.start (take f.count (pairs_of g.P.RangeEntry.pair c.read_leaf.new.buffer)))) c.enter.ensures.told.1 (seen_equal id u v c.enter.ensures.told.3) r) c.read_leaf.ensures.reads
+    reads_since c.args.up c.enter.new.seat.id id u v c.read_leaf.new.seat.view (low_of c.args.up from to) (high_of c.args.up from to) (ascending c.args.up (drop c.args.start (take f.count (pairs_of g.P.RangeEntry.pair c.read_leaf.new.buffer)))) c.enter.ensures.told.1 (seen_equal id u v c.enter.ensures.told.3) r) c.read_leaf.ensures.reads

@@ -2,6 +2,7 @@ use Rattle.std.proofs.Common.{rules, arith, refl, ℕ, None, take, length, ◌�
 use Rattle.std.proofs.lemmas.List.{length-map}
 use Rattle.live_nodes.specs.Seats.{place}
 use Rattle.live_reads.proofs.Finds.{when_out}
+use Rattle.live_reads.proofs.Stood.{last_kept}
 use Rattle.live_layout.specs.Page.{pairs_of}
 use Rattle.live_scans.specs.inner.Directions.{low_of, high_of, ascending}
 use Rattle.live_scans.specs.inner.Moments.{Reads}
@@ -54,6 +55,9 @@ loop-stepped-init g c =
       trail = ((c.requires.position, tt), (c.requires.position, tt));
       read = begins.0;
     }
+
+pub read_on-requires-clause-last : goal.read_on-requires-clause-last
+read_on-requires-clause-last g c = last_kept c.args.seat.now.view c.loop-stepped.seat.view c.args.last c.loop-stepped.invariant.keeps c.requires.last
 
 pub read_on-requires-clause-root_word : goal.read_on-requires-clause-root_word
 read_on-requires-clause-root_word g c = c.loop-stepped.invariant.keeps.places (place 0 1 1) c.requires.root_word

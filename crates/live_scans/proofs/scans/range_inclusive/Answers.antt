@@ -5,6 +5,7 @@ use Rattle.live_layout.specs.Page.{pairs_of}
 use Rattle.live_law.specs.Known.{Known}
 use Rattle.live_growth.specs.Calls.{known_of}
 use Rattle.live_reads.proofs.Finds.{keeps_then}
+use Rattle.live_reads.proofs.Stood.{last_kept}
 use Rattle.live_growth.proofs.Ready.{ready_kept}
 use Rattle.live_scans.specs.Scans.{HasBegun, HasPage}
 use Rattle.live_scans.proofs.Pages.{begun_by, page_crossed, page_roomless, page_seat}
@@ -23,6 +24,9 @@ invariant_of-guard g c = ready_kept c.guard.inside.seat.view c.start.new.seat.vi
 
 pub page-requires-clause-root_word : goal.page-requires-clause-root_word
 page-requires-clause-root_word g c = c.in-Some.ensures.keeps.places (place 0 1 1) c.guard.invariant.root_word
+
+pub page-requires-clause-last : goal.page-requires-clause-last
+page-requires-clause-last g c = last_kept c.guard.inside.seat.view c.start.new.seat.view c.guard.inside.room.last c.in-Some.ensures.keeps c.guard.invariant.last
 
 pub invariant_of-guard-in_default-page : goal.invariant_of-guard-in_default-page
 invariant_of-guard-in_default-page g c =

@@ -2,7 +2,7 @@ use Rattle.std.proofs.Common.{rules, sym, refl, Some, None, ◌≡◌, ◌∙◌
 use Rattle.live_law.specs.Views.{ask, got}
 use Rattle.live_reads.proofs.Finds.{answers_by}
 use Rattle.live_growth.specs.Calls.{IsReady}
-use Rattle.live_growth.proofs.Ready.{ready_kept, made_call}
+use Rattle.live_growth.proofs.Ready.{ready_kept, ready_last, made_call}
 use Rattle.live_updates.specs.declared.lookup.Site.TheVariants as sites
 use Rattle.live_updates.specs.inner.Lookups.{Lookup, lookup_of, absence}
 use Rattle.live_updates.proofs.Ended.{absence_lookup}
@@ -15,8 +15,8 @@ module _ (c : After-seek) where
   abbrev looked : Lookup
   looked = lookup_of c.loop.guard-inside.seat.id c.args.key (absence c.loop.guard-inside.seat.id c.args.key)
 
-  ready : IsReady c.seek.new.seat.view c.loop.guard-inside.room
-  ready = ready_kept c.loop.guard-inside.seat.view c.seek.new.seat.view c.loop.guard-inside.room c.loop.invariant.ready c.seek.ensures.told.2
+  ready : IsReady c.seek.new.seat.view (record c.loop.guard-inside.room { last = c.seek.new.last })
+  ready = ready_last c.seek.new.seat.view c.loop.guard-inside.room c.seek.new.last (ready_kept c.loop.guard-inside.seat.view c.seek.new.seat.view c.loop.guard-inside.room c.loop.invariant.ready c.seek.ensures.told.2) c.seek.ensures.last
 
 pub seek-requires-clause-legal : goal.seek-requires-clause-legal
 seek-requires-clause-legal c = absence_lookup c.loop.guard-inside.seat.id c.args.key

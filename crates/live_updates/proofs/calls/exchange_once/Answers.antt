@@ -2,7 +2,7 @@ use Rattle.std.proofs.Common.{rules, sym, subst, Ok, Some, None, ◌≡◌, ◌�
 use Rattle.std.specs.Option.{option_map}
 use Rattle.live_law.specs.Tree.{Answers}
 use Rattle.live_growth.specs.Calls.{IsReady}
-use Rattle.live_growth.proofs.Ready.{ready_kept}
+use Rattle.live_growth.proofs.Ready.{ready_kept, ready_last}
 use Rattle.live_updates.specs.Entries.{swapped}
 use Rattle.live_updates.specs.declared.lookup.Site.TheVariants as sites
 use Rattle.live_updates.specs.inner.Lookups.{Lookup, lookup_of, Swap, exchange_fails, EndsBy}
@@ -23,8 +23,8 @@ abbrev update : Over → Update
 update g = update_of (x g).caller (x g).key (Some (x g).old) (x g).new (swapped (x g).caller (x g).key (x g).old (x g).new (Ok (x g).new))
 
 -- THE KEY was looked for
-ready : (g : Over) (c : After-seek g) → IsReady c.seek.new.seat.view c.args.room.now
-ready g c = ready_kept c.args.seat.now.view c.seek.new.seat.view c.args.room.now c.requires.ready c.seek.ensures.told.2
+ready : (g : Over) (c : After-seek g) → IsReady c.seek.new.seat.view (record c.args.room.now { last = c.seek.new.last })
+ready g c = ready_last c.seek.new.seat.view c.args.room.now c.seek.new.last (ready_kept c.args.seat.now.view c.seek.new.seat.view c.args.room.now c.requires.ready c.seek.ensures.told.2) c.seek.ensures.last
 
 -- found,
 by_value : (g : Over) (c : In-At g) → EndsBy (x g).caller (exchange_fails (x g) (Some c.in-At.value)) c.args.seat.now.view c.seek.new.seat.view

@@ -1,6 +1,6 @@
-use Rattle.std.proofs.Common.{◌∙◌}
+use Rattle.std.proofs.Common.{true, ◌∙◌}
 use Rattle.live_growth.specs.Calls.{IsReady}
-use Rattle.live_growth.proofs.Ready.{ready_kept, ready_again, ready_spare, sights_grown}
+use Rattle.live_growth.proofs.Ready.{ready_kept, ready_again, ready_changed, ready_spare, sights_grown}
 use Rattle.live_reads.proofs.Sights.{sights_kept}
 use Rattle.live_updates.proofs.shrink_node.shrink_end.Goals as goal
 use Rattle.live_updates.proofs.shrink_node.shrink_end.Goals.{After-descend, After-shrink_node}
@@ -9,8 +9,8 @@ use Rattle.live_updates.proofs.shrink_node.shrink_end.Goals.{After-descend, Afte
 ready : (c : After-descend) → IsReady c.descend.new.seat.view c.args.room.now
 ready c = ready_kept c.args.seat.now.view c.descend.new.seat.view c.args.room.now c.requires.ready c.descend.ensures.told.2
 
-again : (c : After-shrink_node) → IsReady c.shrink_node.new.seat.view (record c.args.room.now { spare = c.shrink_node.new.free_nodes })
-again c = ready_again c.descend.new.seat.view c.shrink_node.new.seat.view c.args.room.now c.shrink_node.new.free_nodes (ready (goal.at.After-shrink_node c).After-descend) c.shrink_node.ensures.told.2 c.shrink_node.ensures.told.3 c.shrink_node.ensures.free_nodes
+again : (c : After-shrink_node) → IsReady c.shrink_node.new.seat.view (record c.args.room.now { spare = c.shrink_node.new.free_nodes; is_changed = true; used = c.add.new.self })
+again c = ready_again c.descend.new.seat.view c.shrink_node.new.seat.view (record c.args.room.now { is_changed = true; used = c.add.new.self }) c.shrink_node.new.free_nodes (ready_changed c.descend.new.seat.view c.args.room.now true c.add.new.self (ready (goal.at.After-shrink_node c).After-descend)) c.shrink_node.ensures.told.2 c.shrink_node.ensures.told.3 c.shrink_node.ensures.free_nodes
 
 pub returns-in_default : goal.returns-in_default
 returns-in_default c = let d = c.descend.ensures.told in record { told = (d.0, d.1, ready (goal.at.returns-in_default c).After-descend, d.3) }

@@ -1,7 +1,7 @@
 use Rattle.std.proofs.Common.{rules, sym, refl, None, ◌≡◌, ◌∙◌}
 use Rattle.live_law.specs.Views.{ask, got}
 use Rattle.live_reads.proofs.Finds.{found_none, answers_by}
-use Rattle.live_growth.proofs.Ready.{ready_kept, made_call}
+use Rattle.live_growth.proofs.Ready.{ready_kept, ready_last, made_call}
 use Rattle.live_growth.proofs.map.Congee.get.Goals as goal
 
 pub invariant_of-guard-in-Some : goal.invariant_of-guard-in-Some
@@ -11,7 +11,7 @@ invariant_of-guard-in-Some c =
     let room = c.loop.guard-inside.room in
     let w = c.get_once.new.seat.view in
     let t = c.get_once.ensures.told in
-    ready_kept v w room i.ready t.2
+    ready_last w room c.get_once.new.last (ready_kept v w room i.ready t.2) c.get_once.ensures.last
 
 pub returns-in-Some-clause-made : goal.returns-in-Some-clause-made
 returns-in-Some-clause-made c =
@@ -34,5 +34,5 @@ loop-preserved c =
       book = t.0 ∙ i.book;
       id = t.1 ∙ i.id;
       seen = found_none (ask c.loop.guard-inside.seat.id c.args.key 0 0) c.get_once.result v w t.3 none ∙ i.seen;
-      ready = ready_kept v w room i.ready t.2;
+      ready = ready_last w room c.get_once.new.last (ready_kept v w room i.ready t.2) c.get_once.ensures.last;
     }

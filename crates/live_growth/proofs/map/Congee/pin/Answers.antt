@@ -6,4 +6,4 @@ pub enter-requires : goal.enter-requires
 enter-requires c = admits
 
 pub invariant_of-result : goal.invariant_of-result
-invariant_of-result c = ready_new c.enter.result.view c.none.result c.enter.ensures.view c.none.ensures
+invariant_of-result c = ready_new c.enter.result.view c.none.result c.none-2.result c.none-3.result c.enter.ensures.view c.none.ensures c.none-3.ensures

@@ -9,4 +9,4 @@ pub enter-seat-requires : goal.enter-seat-requires
 enter-seat-requires c = admits
 
 pub reserve-requires-clause-ready : goal.reserve-requires-clause-ready
-reserve-requires-clause-ready c = ready_new c.enter-seat.result.view c.none.result c.enter-seat.ensures.view c.none.ensures
+reserve-requires-clause-ready c = ready_new c.enter-seat.result.view c.none.result c.none-2.result c.none-3.result c.enter-seat.ensures.view c.none.ensures c.none-3.ensures

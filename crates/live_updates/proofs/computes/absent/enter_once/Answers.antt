@@ -1,25 +1,51 @@
-use Rattle.std.proofs.Common.{◌∙◌}
+use Rattle.std.proofs.Common.{ℕ, List, ◌≡◌, ◌∙◌, subst}
+use Rattle.share_rule.specs.History.{Entry}
+use Rattle.live_law.specs.Views.{View}
+use Rattle.live_law.specs.Tree.{Answers}
+use Rattle.live_nodes.specs.Seats.{SeatView}
+use Rattle.live_updates.specs.inner.Updates.{Update}
+use Rattle.live_updates.specs.inner.Ends.{Tries}
+use Rattle.live_updates.specs.declared.computes.absent.Tried.{Tried}
+use Rattle.live_updates.specs.declared.computes.absent.Tried.TheVariants.{Entered, Present, Again, Lacks}
+use Rattle.live_growth.specs.Calls.{IsReady}
 use Rattle.live_growth.proofs.Ready.{ready_kept}
+use Rattle.live_updates.proofs.computes.absent.enter_once.Given.{Over}
 use Rattle.live_updates.proofs.computes.absent.enter_once.Goals as goal
+use Rattle.live_updates.proofs.computes.absent.enter_once.Goals.{After-descend_from}
+
+-- a try that goes on where its seat has seen no more
+tries_from : (u : Update) (o : Tried) (a v w : SeatView View) → v.client.seen ≡ a.client.seen → Tries u o v w → Tries u o a w
+tries_from u Entered a v w same t = subst (λ (z : List (Entry ℕ)). Answers u.caller u.entry z w.client.seen) same t
+tries_from u Present a v w same t = t ∙ same
+tries_from u Again a v w same t = t ∙ same
+tries_from u Lacks a v w same t = t ∙ same
+
+ready : (g : Over) (c : After-descend_from g) → IsReady c.descend_from.new.seat.view c.args.room.now
+ready g c = ready_kept c.args.seat.now.view c.descend_from.new.seat.view c.args.room.now c.requires.ready c.descend_from.ensures.told.2
 
 pub returns-in_default : goal.returns-in_default
 returns-in_default g c =
-    let v = c.args.seat.now.view in
-    let w = c.descend.new.seat.view in
-    let t = c.descend.ensures.told in
-    record { told = (t.0, t.1, ready_kept v w c.args.room.now c.requires.ready t.2, t.3) }
+    let t = c.descend_from.ensures.told in
+    record { told = (t.0, t.1, ready g (goal.at.returns-in_default g c).After-descend_from, t.3) }
 
 pub part-requires-clause-ready : goal.part-requires-clause-ready
-part-requires-clause-ready g c = ready_kept c.args.seat.now.view c.descend.new.seat.view c.args.room.now c.requires.ready c.descend.ensures.told.2
+part-requires-clause-ready g c = ready g (goal.at.part-requires-clause-ready g c).After-descend_from
 
-pub returns-in-Some-mismatch : goal.returns-in-Some-mismatch
-returns-in-Some-mismatch g c =
-    let t = c.descend.ensures.told in
-    let l = c.part.ensures.told in
-    record { told = (l.0 ∙ t.0, l.1 ∙ t.1, l.2, c.tried_with.ensures g.U.Updates.update c.args.seat.now.view c.part.new.seat.view (l.3 ∙ t.3)) }
+pub returns-in-Ok : goal.returns-in-Ok
+returns-in-Ok g c =
+    let t = c.descend_from.ensures.told in
+    let p = c.part.ensures.told in
+    let e = c.enter_below.ensures.told in
+    record { told = (e.0 ∙ (p.0 ∙ t.0), e.1 ∙ (p.1 ∙ t.1), e.2, tries_from g.U.Updates.update c.enter_below.result c.args.seat.now.view c.part.new.seat.view c.enter_below.new.seat.view (p.3 ∙ t.3) e.3) }
 
-pub extend-requires-clause-ready : goal.extend-requires-clause-ready
-extend-requires-clause-ready g c = ready_kept c.args.seat.now.view c.descend.new.seat.view c.args.room.now c.requires.ready c.descend.ensures.told.2
+pub returns-in-Err : goal.returns-in-Err
+returns-in-Err g c =
+    let t = c.descend_from.ensures.told in
+    let p = c.part.ensures.told in
+    record { told = (p.0 ∙ t.0, p.1 ∙ t.1, p.2, c.tried_with.ensures g.U.Updates.update c.args.seat.now.view c.part.new.seat.view (p.3 ∙ t.3)) }
+
+pub enter_below-requires-then-position-gt1-clause-ready : goal.enter_below-requires-then-position-gt1-clause-ready
+enter_below-requires-then-position-gt1-clause-ready g c = ready g (goal.at.enter_below-requires-then-position-gt1-clause-ready g c).After-descend_from
 
 pub enter_at-requires-clause-ready : goal.enter_at-requires-clause-ready
-enter_at-requires-clause-ready g c = ready_kept c.args.seat.now.view c.descend.new.seat.view c.args.room.now c.requires.ready c.descend.ensures.told.2
+enter_at-requires-clause-ready g c = ready g (goal.at.enter_at-requires-clause-ready g c).After-descend_from

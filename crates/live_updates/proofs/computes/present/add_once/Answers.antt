@@ -1,6 +1,6 @@
 use Rattle.std.proofs.Common.{rules, refl, ℕ, Some, None, ◌≡◌, ◌∙◌}
 use Rattle.live_growth.specs.Calls.{IsReady}
-use Rattle.live_growth.proofs.Ready.{ready_kept, ready_rest}
+use Rattle.live_growth.proofs.Ready.{ready_kept, ready_last, ready_rest}
 use Rattle.live_updates.specs.declared.lookup.Site.TheVariants as sites
 use Rattle.live_updates.specs.inner.Lookups.{Lookup, lookup_of}
 use Rattle.live_updates.specs.inner.Updates.{Update, update_of}
@@ -17,8 +17,8 @@ module _ (g : Over) (c : After-seek g) where
   abbrev looked : Lookup
   looked = lookup_of c.args.seat.now.id c.args.key nowhere
 
-  ready : IsReady c.seek.new.seat.view c.args.room.now
-  ready = ready_kept c.args.seat.now.view c.seek.new.seat.view c.args.room.now c.requires.ready c.seek.ensures.told.2
+  ready : IsReady c.seek.new.seat.view (record c.args.room.now { last = c.seek.new.last })
+  ready = ready_last c.seek.new.seat.view c.args.room.now c.seek.new.last (ready_kept c.args.seat.now.view c.seek.new.seat.view c.args.room.now c.requires.ready c.seek.ensures.told.2) c.seek.ensures.last
 
 -- and found
 module _ (g : Over) (c : After-update_here g) where
@@ -33,8 +33,8 @@ module _ (g : Over) (c : After-update_here g) where
       let found : c.seek.result ≡ Some (sites.At c.in-Some-At.leaf c.in-Some-At.value) = search rules in
       at_some (looked g (goal.at.After-update_here g c).After-seek) c.seek.new.seat.book c.seek.result c.in-Some-At.leaf c.in-Some-At.value c.args.seat.now.view c.seek.new.seat.view found c.seek.ensures.told.3
 
-  ready_then : IsReady c.update_here.new.seat.view c.args.room.now
-  ready_then = ready_rest c.seek.new.seat.view c.update_here.new.seat.view c.args.room.now (ready g (goal.at.After-update_here g c).After-seek) c.update_here.ensures.told.2
+  ready_then : IsReady c.update_here.new.seat.view (record c.args.room.now { last = c.seek.new.last })
+  ready_then = ready_rest c.seek.new.seat.view c.update_here.new.seat.view (record c.args.room.now { last = c.seek.new.last }) (ready g (goal.at.After-update_here g c).After-seek) c.update_here.ensures.told.2
 
 pub seek-requires-clause-legal : goal.seek-requires-clause-legal
 seek-requires-clause-legal g c = always_lookup c.args.seat.now.id c.args.key

@@ -1,6 +1,6 @@
 use Rattle.std.proofs.Common.{rules, refl, None}
 use Rattle.live_growth.specs.Calls.{IsReady}
-use Rattle.live_growth.proofs.Ready.{ready_kept}
+use Rattle.live_growth.proofs.Ready.{ready_kept, ready_last}
 use Rattle.live_updates.specs.inner.Lookups.{Lookup, lookup_of}
 use Rattle.live_updates.proofs.Made.{no_more, at_some}
 use Rattle.live_updates.specs.inner.Ends.{kept}
@@ -14,8 +14,8 @@ module _ (g : Over) (c : After-seek g) where
   abbrev looked : Lookup
   looked = lookup_of c.args.seat.now.id c.args.key (kept c.args.seat.now.id c.args.key)
 
-  ready : IsReady c.seek.new.seat.view c.args.room.now
-  ready = ready_kept c.args.seat.now.view c.seek.new.seat.view c.args.room.now c.requires.ready c.seek.ensures.told.2
+  ready : IsReady c.seek.new.seat.view (record c.args.room.now { last = c.seek.new.last })
+  ready = ready_last c.seek.new.seat.view c.args.room.now c.seek.new.last (ready_kept c.args.seat.now.view c.seek.new.seat.view c.args.room.now c.requires.ready c.seek.ensures.told.2) c.seek.ensures.last
 
 pub seek-requires-clause-legal : goal.seek-requires-clause-legal
 seek-requires-clause-legal g c = keep_lookup c.args.seat.now.id c.args.key

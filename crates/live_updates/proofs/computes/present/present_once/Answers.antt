@@ -1,7 +1,7 @@
 use Rattle.std.proofs.Common.{rules, sym, subst, ℕ, Some, None, ◌≡◌, ◌∙◌}
 use Rattle.std.specs.Option.{option_map}
 use Rattle.live_growth.specs.Calls.{IsReady}
-use Rattle.live_growth.proofs.Ready.{ready_kept}
+use Rattle.live_growth.proofs.Ready.{ready_kept, ready_last}
 use Rattle.live_updates.specs.declared.lookup.Site.TheVariants as sites
 use Rattle.live_updates.specs.inner.Lookups.{Lookup, lookup_of, EndsBy}
 use Rattle.live_updates.specs.inner.Updates.{Update, update_of}
@@ -20,8 +20,8 @@ module _ (g : Over) (c : After-seek g) where
   abbrev looked : Lookup
   looked = lookup_of c.args.seat.now.id c.args.key (without_call c.args.seat.now.id c.args.key)
 
-  ready : IsReady c.seek.new.seat.view c.args.room.now
-  ready = ready_kept c.args.seat.now.view c.seek.new.seat.view c.args.room.now c.requires.ready c.seek.ensures.told.2
+  ready : IsReady c.seek.new.seat.view (record c.args.room.now { last = c.seek.new.last })
+  ready = ready_last c.seek.new.seat.view c.args.room.now c.seek.new.last (ready_kept c.args.seat.now.view c.seek.new.seat.view c.args.room.now c.requires.ready c.seek.ensures.told.2) c.seek.ensures.last
 
 -- and found, and the closure called
 module _ (g : Over) (c : After-exchange_here g) where

@@ -2,7 +2,7 @@ use Rattle.std.proofs.Common.{◌≡◌, false}
 use Rattle.live_law.specs.Views.{ask}
 use Rattle.live_reads.specs.Paths.{IsOpen, Keeps}
 use Rattle.live_reads.specs.Positions.{KnowsPosition}
-use Rattle.live_reads.proofs.descend.descend.Given as goal
+use Rattle.live_reads.proofs.descend.descend_from.Given as goal
 
 abbrev pub ghosts-step : goal.ghosts-step
 ghosts-step a = record { ask = ask a.seat.now.id a.key 0 0; reads = false }
