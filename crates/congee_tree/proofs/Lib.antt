@@ -1,5 +1,4 @@
 pub mod BulkLaws
 pub mod EmptyLaws
-pub mod LeastLaws
 pub mod PageLaws
 pub mod Places

@@ -81,6 +81,7 @@ fn shrink<P: Drop, A: Allocator>(
 
 /// Puts the node in a slot into its next smaller form if it has few children left and nodes are to shrink. Without
 /// memory for that it is unchanged.
+#[inline(always)]
 pub(crate) fn shrink_if_due<P: Drop, A: Allocator>(
     nodes: &mut Nodes<P>,
     supply: &mut Supply<A>,
@@ -144,6 +145,7 @@ fn tidy<P: Drop, A: Allocator>(
 }
 
 // Whether the node in a slot has the smallest form and one child.
+#[inline(always)]
 fn is_alone<P: Drop>(nodes: &Nodes<P>, slot: usize) -> bool
     requires { IsSome (node_at nodes.now.table (name_of slot)) }
     ensures { (n : TableNode P) → node_at nodes.now.table (name_of slot) ≡ Some n
@@ -156,6 +158,7 @@ fn is_alone<P: Drop>(nodes: &Nodes<P>, slot: usize) -> bool
 }
 
 // Puts the leaf in a slot back into its parent on the key's path, if it has the smallest form and one pair.
+#[inline(always)]
 fn lower_if_alone<P: Drop>(nodes: &mut Nodes<P>, parent: usize, slot: usize, key: &[u8; 8])
     requires { HasLeafOnPath nodes.old.table (name_of parent) (name_of slot) key.now }
     ensures { SameOnPath nodes.old.table nodes.new.table (name_of parent) key.now }
