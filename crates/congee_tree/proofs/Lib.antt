@@ -1,4 +1,5 @@
 pub mod BulkLaws
 pub mod EmptyLaws
+pub mod LeastLaws
 pub mod PageLaws
 pub mod Places

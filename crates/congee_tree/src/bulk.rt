@@ -191,6 +191,10 @@ impl<A: Allocator> RawCongee<u64, A> {
             (λ pair. NeedsNode self.new.pairs (K.number pair.0))) }
         ensures charge { ChargesForNodes A.charge self.old self.new }
     {
-        self.tree.insert_many(pairs)
+        self.least = 0;
+        let inserted = self.tree.insert_many(pairs);
+        // (for the proof: brings the order of the keys into scope)
+        let _ = self.tree.table();
+        inserted
     }
 }

@@ -87,8 +87,11 @@ pub fn extract_run<L: Ledger, P: Payload, A: Allocator, F, R: Receiver<P, F>>(
     ensures ready { R.ready f.new }
 {
     let mut reads = ReadCount::<L>::new(blank);
+    tree.least = 0;
     tree.tree
         .extract_run::<L, F, R>(start, key, end, f, &mut reads);
+    // (for the proof: brings the order of the keys into scope)
+    let _ = tree.tree.table();
 }
 
 /// Asks about the pair at the key and those that follow it in its leaf, and removes those that aren't to stay. Returns the
@@ -115,7 +118,11 @@ pub fn keep_run<L: Ledger, P: Payload, A: Allocator, F, R: Asker<P, F>>(
     ensures ready { R.ready f.new }
 {
     let mut reads = ReadCount::<L>::new(blank);
-    tree.tree.keep_run::<L, F, R>(start, key, f, &mut reads)
+    tree.least = 0;
+    let last = tree.tree.keep_run::<L, F, R>(start, key, f, &mut reads);
+    // (for the proof: brings the order of the keys into scope)
+    let _ = tree.tree.table();
+    last
 }
 
 /// Where the key is present, calls the closure, once, and stores what it returns; `None` removes the key. Returns the

@@ -78,7 +78,11 @@ impl<P: Payload, A: Allocator> RawCongee<P, A> {
             Removes A.charge self.old pair.0 (Some pair.1) self.new) }
         ensures empty { IfNone result (self.new ≡ self.old) }
     {
-        self.tree.pop_first()
+        // For the proof: brings the order of the keys into scope.
+        self.law_ordered();
+        let (key, payload) = self.tree.pop_first(self.least)?;
+        self.least = key.saturating_add(1);
+        Some((key, payload))
     }
 
     // Removes the pair with the least key, and returns it. No node shrinks, so it takes no memory. Never fails.
@@ -90,7 +94,11 @@ impl<P: Payload, A: Allocator> RawCongee<P, A> {
             LosesInPlace self.old.nodes (to_be_bytes w64 pair.0) self.new.nodes) }
         ensures empty { IfNone result (self.new ≡ self.old) }
     {
-        self.tree.pop_first_in_place()
+        // For the proof: brings the order of the keys into scope.
+        self.law_ordered();
+        let (key, payload) = self.tree.pop_first_in_place(self.least)?;
+        self.least = key.saturating_add(1);
+        Some((key, payload))
     }
 
     /// Removes the pair with the greatest key, and returns it. Never fails; it is a removal as any other.

@@ -37,9 +37,13 @@ use tree_walk::walk::{key_from, push_keys};
 #[derive(Drop)]
 pub struct RawCongee<P: Payload, A: Allocator> {
     pub(crate) tree: Tree<P, A>,
+    /// No key is below this one. A removal of the first pair needn't search on its path.
+    pub(crate) least: u64,
 }
 
 impl<P: Payload, A: Allocator> Model for RawCongee<P, A> {
+    ghost use Rattle.std.specs.Prelude.{◌^◌};
+    ghost use Rattle.spec_map.specs.Map.{Rises};
     ghost use Rattle.tree_edit.specs.Tree.{TreeView, tree_code};
 
     ghost Value = { TreeView P A };
@@ -47,6 +51,18 @@ impl<P: Payload, A: Allocator> Model for RawCongee<P, A> {
     ghost coded = { tree_code P.code A.code };
 
     ghost view = { λ t. t.tree };
+
+    ghost invariant = { λ t. Rises t.least (2 ^ 64) t.tree.pairs };
+}
+
+// The lesser one of a bound and a key.
+#[inline(always)]
+fn lowered(least: u64, key: &[u8; 8]) -> u64
+    ensures bound { result ≤ least }
+    ensures key { result ≤ from_be_bytes w64 key.now }
+    ensures fits { from_be_bytes w64 key.now < 2 ^ 64 }
+{
+    least.min(u64::from_be_bytes(*key))
 }
 
 impl<P: Payload, A: Allocator> RawCongee<P, A> {
@@ -56,6 +72,7 @@ impl<P: Payload, A: Allocator> RawCongee<P, A> {
     {
         Ok(RawCongee {
             tree: Tree::new(alloc, budget)?,
+            least: 0,
         })
     }
 
@@ -80,6 +97,7 @@ impl<P: Payload, A: Allocator> RawCongee<P, A> {
             Inserts A.charge self.old number payload result self.new }
         ensures reads { ReadsPath self.old.nodes key.now reads.old reads.new }
     {
+        self.least = lowered(self.least, key);
         self.tree.insert(key, payload, reads)
     }
 
@@ -98,6 +116,7 @@ impl<P: Payload, A: Allocator> RawCongee<P, A> {
             ComputesOrInserts A.charge self.old number F.FnMut f.old result f.new self.new }
         ensures reads { ReadsPath self.old.nodes key.now reads.old reads.new }
     {
+        self.least = lowered(self.least, key);
         self.tree.compute_or_insert(key, f, reads)
     }
 
@@ -126,6 +145,7 @@ impl<P: Payload, A: Allocator> RawCongee<P, A> {
             ComputesIfPresent A.charge self.old number F.FnMut f.old result f.new self.new }
         ensures reads { ReadsPath self.old.nodes key.now reads.old reads.new }
     {
+        self.least = lowered(self.least, key);
         self.tree.compute_if_present(key, f, reads)
     }
 

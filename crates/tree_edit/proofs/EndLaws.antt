@@ -325,6 +325,38 @@ module _ {P : Type 0} (side : Side) (s : NodeTable P) (root : ℕ) where
           is = ap (λ k. Some k) (sym low_is) ∙ sym (ap (λ o. option_map (λ e. e.0) o) (sym o.ends ∙ one ∙ side_one side (low key, v)));
         }
 
+-- what no pair comes before, no child on the way to the first does
+module _ {P : Type 0} (s : NodeTable P) (root above slot parent : ℕ) (trail : List ℕ) (w : OnWay First s root above slot parent trail) (n : TableNode P) (here : node_at s slot ≡ Some n)
+    (key : List ℕ) (bytes : AreBytes key) (full : length key ≡ 8) (bound : Rises (key_number key) (2 ^ 64) (pairs_at s depth root)) (begins : Begins n.prefix key) where
+  record Before (b : ℕ) (c : Child P) (less : ℕ) : Type 0 where
+    some : HasSome s (pairs_under (λ i. pairs_at s less i) n.prefix b c)
+    rises : Rises (low (n.prefix ++ b ∷ [])) (high (n.prefix ++ b ∷ [])) (pairs_under (λ i. pairs_at s less i) n.prefix b c)
+
+  before : (b : ℕ) (c : Child P) → first_of n.children ≡ Some (b, c) → Before b c (opens First s root above slot parent trail w n here).less
+  before b (Payload v) is =
+      let room = room-positive 8 (n.prefix ++ b ∷ []) in
+      record { some = record { first = (low (n.prefix ++ b ∷ []), v); rest = []; is = refl }; rises = (omega arith, omega (arith, room), tt) }
+  before b (Node j) is =
+      let o = opens First s root above slot parent trail w n here in
+      let end = side_stored First 0 256 n.children (b, Node j) o.sound.ordered is in
+      let child : IsTree s o.less (n.prefix ++ b ∷ []) j = IsChild-found s o.less n.prefix n.children b (Node j) o.children end.stored in
+      let filled = child_filled s (λ e i. nodes_at s o.less e i) n.prefix n.children b j end.stored o.filled in
+      record { some = filled_pairs s o.less (n.prefix ++ b ∷ []) j child (snoc_some n.prefix b) filled; rises = tree_rises s o.less (n.prefix ++ b ∷ []) j child }
+
+  pub way_bound : (b : ℕ) (c : Child P) → first_of n.children ≡ Some (b, c) → next_byte n.prefix key ≤ b
+  way_bound b c is =
+      let o = opens First s root above slot parent trail w n here in
+      let x = before b c is in
+      let one = first_child s (λ i. pairs_at s o.less i) n.prefix n.children (b, c) is x.some in
+      let first : first_of (pairs_under (λ i. pairs_at s o.less i) n.prefix b c) ≡ Some x.some.first = ap (λ es. first_of es) x.some.is in
+      let below = (first_at _ _ _ x.some.first x.rises first).to in
+      let from = (first_at _ _ _ x.some.first bound (sym o.ends ∙ one ∙ first)).from in
+      let goes = goes_on n.prefix key begins bytes o.sound.short full in
+      elim (cases_lt b (next_byte n.prefix key)) [
+        | inl less ↦ let order = byte_order 8 n.prefix b (next_byte n.prefix key) less (omega (arith, o.sound.short)) in absurd (omega (arith, below, from, order, goes.at_least))
+        | inr more ↦ more
+      ]
+
 key_bytes : (n : ℕ) → AreBytes (to_be_bytes w64 n)
 key_bytes n = (omega arith, (omega arith, (omega arith, (omega arith, (omega arith, (omega arith, (omega arith, (omega arith, tt))))))))
 

@@ -47,6 +47,23 @@ module _ {P : Type 0} (es : List (ℕ × Link P)) (h : Rises 0 256 es) where
   pub last_linked : (o : Option (ℕ × Link P)) → o ≡ last_of (between es 0 256) → o ≡ last_of es
   last_linked o is = is ∙ ap (λ t. last_of t) all_there
 
+-- a link that is found under a byte that nothing comes before is the first
+module _ {P : Type 0} where
+  pub found_is_first : (es : List (ℕ × Link P)) → Rises 0 256 es → (b : ℕ) (c : Link P) → lookup es b ≡ Some c → ((d : ℕ) (e : Link P) → first_of es ≡ Some (d, e) → b ≤ d) → Some (b, c) ≡ first_of es
+  found_is_first [] h b c found bound = absurd (cc)
+  found_is_first ((d, e) ∷ es) h b c found bound =
+      let from : b ≤ d = bound d e refl in
+      elim (cases_eq d b) [
+        | inl same ↦
+            let both : Some e ≡ Some c = rw (eq-eqb d b same) at found in
+            let is : e ≡ c = cc in
+            sym (ap (λ k. Some (k, e)) same ∙ ap (λ x. Some (b, x)) is)
+        | inr other ↦
+            let further : lookup es b ≡ Some c = rw (ne_eqb d b other) at found in
+            let none = lookup-below (d + 1) 256 es b h.2 (omega (arith, from)) in
+            absurd (let clash : ◌≡◌ {A = Option (Link P)} None (Some c) = sym none ∙ further in cc)
+      ]
+
 -- the link at a side, as the child that is seen
 module _ {P : Type 0} (i : ℕ) where
   first_seen : (es : List (ℕ × Link P)) → first_of (seen_links i es) ≡ option_map (λ p. (p.0, seen_link i p.0 p.1)) (first_of es)

@@ -3,15 +3,17 @@
 //!
 //! Tested in `test_owned/neighbours`.
 
-ghost use Rattle.std.specs.Prelude.{◌≡◌, ◌+◌, false, [], IfSome, IfNone, Some, map};
+ghost use Rattle.std.specs.Prelude.{◌≡◌, ◌+◌, ◌^◌, false, [], IfSome, IfNone, Some, map};
 ghost use Rattle.std.specs.Int.{to_be_bytes, w64};
 ghost use Rattle.std.specs.Option.{option_map};
+ghost use Rattle.spec_map.specs.Map.{Rises};
 ghost use Rattle.spec_map.specs.Near.{first_of, last_of};
 ghost use Rattle.tree_path.specs.inner.Descent.{IsTrail, SeeksTo};
 ghost use Rattle.tree_path.specs.inner.Root.{HasTree, tree_pairs, tree_nodes};
 ghost use Rattle.tree_edit.specs.Reduce.{AreFilled, LosesInPlace};
 ghost use Rattle.tree_edit.specs.TreeCalls.{Removes};
-ghost use Rattle.tree_edit.specs.inner.Ends.{at_side};
+ghost use Rattle.tree_edit.specs.declared.ends.Side.TheVariants.{First};
+ghost use Rattle.tree_edit.specs.inner.Ends.{at_side, HasSlotAt, StartsFrom};
 ghost use Rattle.tree_links.specs.LinkNode.{looked_at};
 ghost use Rattle.tree_links.specs.Places.{as_linked};
 ghost use Rattle.tree_links.specs.SeenTable.{name_of};
@@ -22,7 +24,7 @@ use crate::tree::{Nodes, Tree};
 use node_table::allocator::Allocator;
 use tree_links::bytes::pair_number;
 use tree_links::descent::{LinkEnd, LinkStop};
-use tree_links::link::LinkRef;
+use tree_links::link::{LinkMeeting, LinkRef};
 use tree_links::linked_node::LinkedNode;
 use tree_links::place::Linked;
 
@@ -33,31 +35,89 @@ pub enum Side {
     Last,
 }
 
-// The node's first link or its last, and the byte.
+// The node's first link, and its byte, where none of its links comes before the key. So what the node has under the key's
+// byte is the first. `word` has the key's bytes.
 #[inline(always)]
-fn link_at<'a, P: Drop>(node: &'a Linked<P>, side: Side) -> Option<(u8, LinkRef<'a, P>)>
+fn first_link<'a, P: Drop>(
+    node: &'a Linked<P>,
+    key: &[u8; 8],
+    word: u64,
+) -> Option<(u8, LinkRef<'a, P>)>
+    requires word { to_be_bytes w64 word ≡ key.now }
+    requires bound { StartsFrom key.now (as_linked node.now) }
+    ensures { option_map (λ found. (found.0, looked_at found.1)) result
+        ≡ first_of (as_linked node.now).links }
+{
+    let base = LinkedNode::base(node);
+    if base.begins(word) {
+        let byte = key[base.prefix().len()];
+        if let Some(link) = LinkedNode::get_link(node, byte) {
+            return Some((byte, link));
+        }
+    }
+    LinkedNode::first_from(node, 0)
+}
+
+// The node's first link or its last, and the byte. None of its links comes before the key, where the first is asked for.
+#[inline(always)]
+fn link_at<'a, P: Drop>(
+    node: &'a Linked<P>,
+    side: Side,
+    key: &[u8; 8],
+    word: u64,
+) -> Option<(u8, LinkRef<'a, P>)>
+    requires word { to_be_bytes w64 word ≡ key.now }
+    requires bound { side ≡ First → StartsFrom key.now (as_linked node.now) }
     ensures { option_map (λ found. (found.0, looked_at found.1)) result
         ≡ at_side side (as_linked node.now).links }
 {
     // For the proof: brings the order of the bytes into scope.
     let _ = LinkedNode::base(node);
     match side {
-        Side::First => LinkedNode::first_from(node, 0),
+        Side::First => first_link(node, key, word),
         Side::Last => LinkedNode::last_below(node, 256),
+    }
+}
+
+// The slot of the node's first child, where the key leads there. None of the node's links comes before the key, where the
+// first is asked for.
+//
+// So the path of a key that is nearly the first is gone down as in a look-up, by one jump for each node.
+#[inline(always)]
+fn child_at<P: Drop>(node: &Linked<P>, side: Side, key: &[u8; 8], word: u64) -> Option<usize>
+    requires word { to_be_bytes w64 word ≡ key.now }
+    requires bound { side ≡ First → StartsFrom key.now (as_linked node.now) }
+    ensures { IfSome result (λ below. HasSlotAt side below (as_linked node.now)) }
+{
+    match side {
+        Side::First => match LinkedNode::meet(node, key, word) {
+            LinkMeeting::Slot(below) => {
+                // (for the proof: brings the order of the bytes into scope)
+                let _ = LinkedNode::base(node);
+                Some(below)
+            }
+            _ => None,
+        },
+        Side::Last => None,
     }
 }
 
 // Descends to the first pair or the last, and remembers the slots on the way as `seek_along` does. Returns its key and
 // where the path ends; `None` where there is no pair. Only the root may be empty, so no node on the way is a dead end.
+//
+// No pair is below `least`, where the first is asked for. So a node on its path is searched for its byte alone.
 #[inline(always)]
 fn seek_end<P: Drop>(
     nodes: &Nodes<P>,
     root: usize,
     side: Side,
+    least: u64,
     trail: &mut [usize; 8],
 ) -> Option<(u64, LinkEnd)>
     requires tree { HasTree nodes.now.table (name_of root) }
     requires filled { AreFilled (tree_nodes nodes.now.table (name_of root)) }
+    requires bound { side ≡ First
+        → Rises least (2 ^ 64) (tree_pairs nodes.now.table (name_of root)) }
     ensures none { IfNone result (tree_pairs nodes.now.table (name_of root) ≡ []) }
     ensures key { IfSome result (λ found. Some found.0
         ≡ option_map (λ pair. pair.0) (at_side side (tree_pairs nodes.now.table (name_of root)))) }
@@ -73,12 +133,19 @@ fn seek_end<P: Drop>(
     let mut slot = root;
     let mut parent = root;
     let mut above = 0;
+    let bound = least.to_be_bytes();
     'down: loop {
         trail[above] = slot;
         let Some(node) = nodes.get(slot) else {
             unreachable!()
         };
-        let Some((byte, link)) = link_at(node, side) else {
+        if let Some(below) = child_at(node, side, &bound, least) {
+            parent = slot;
+            slot = below;
+            above += 1;
+            continue;
+        }
+        let Some((byte, link)) = link_at(node, side, &bound, least) else {
             return None;
         };
         let base = LinkedNode::base(node);
@@ -120,17 +187,22 @@ fn seek_end<P: Drop>(
 
 impl<P: Drop, A: Allocator> Tree<P, A> {
     /// Removes the pair with the least key, and returns it: a removal as any other. Never fails.
-    pub fn pop_first(&mut self) -> Option<(u64, P)>
+    ///
+    /// No key is below `least`. The nodes on its path aren't searched for their first child, so a caller who remembers the
+    /// key that was first before spares that.
+    pub fn pop_first(&mut self, least: u64) -> Option<(u64, P)>
+        requires { Rises least (2 ^ 64) self.old.pairs }
         ensures pair { result ≡ first_of self.old.pairs }
         ensures removes { IfSome result (λ pair.
             Removes A.charge self.old pair.0 (Some pair.1) self.new) }
         ensures empty { IfNone result (self.new ≡ self.old) }
     {
-        self.pop(Side::First, true)
+        self.pop(Side::First, least, true)
     }
 
     /// The same, where no node shrinks: takes no memory. For a tree that is drained.
-    pub fn pop_first_in_place(&mut self) -> Option<(u64, P)>
+    pub fn pop_first_in_place(&mut self, least: u64) -> Option<(u64, P)>
+        requires { Rises least (2 ^ 64) self.old.pairs }
         ensures pair { result ≡ first_of self.old.pairs }
         ensures removes { IfSome result (λ pair.
             Removes A.charge self.old pair.0 (Some pair.1) self.new) }
@@ -138,7 +210,7 @@ impl<P: Drop, A: Allocator> Tree<P, A> {
             LosesInPlace self.old.nodes (to_be_bytes w64 pair.0) self.new.nodes) }
         ensures empty { IfNone result (self.new ≡ self.old) }
     {
-        self.pop(Side::First, false)
+        self.pop(Side::First, least, false)
     }
 
     /// Removes the pair with the greatest key, and returns it: a removal as any other. Never fails.
@@ -148,11 +220,12 @@ impl<P: Drop, A: Allocator> Tree<P, A> {
             Removes A.charge self.old pair.0 (Some pair.1) self.new) }
         ensures empty { IfNone result (self.new ≡ self.old) }
     {
-        self.pop(Side::Last, true)
+        self.pop(Side::Last, 0, true)
     }
 
     #[inline(always)]
-    fn pop(&mut self, side: Side, shrinks: bool) -> Option<(u64, P)>
+    fn pop(&mut self, side: Side, least: u64, shrinks: bool) -> Option<(u64, P)>
+        requires { side ≡ First → Rises least (2 ^ 64) self.old.pairs }
         ensures pair { result ≡ at_side side self.old.pairs }
         ensures removes { IfSome result (λ pair.
             Removes A.charge self.old pair.0 (Some pair.1) self.new) }
@@ -161,7 +234,7 @@ impl<P: Drop, A: Allocator> Tree<P, A> {
         ensures empty { IfNone result (self.new ≡ self.old) }
     {
         let mut trail = [self.root; 8];
-        let Some((key, spot)) = seek_end(&self.nodes, self.root, side, &mut trail) else {
+        let Some((key, spot)) = seek_end(&self.nodes, self.root, side, least, &mut trail) else {
             return None;
         };
         let bytes = key.to_be_bytes();

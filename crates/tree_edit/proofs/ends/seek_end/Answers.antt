@@ -1,14 +1,20 @@
-use Rattle.std.proofs.Common.{ℕ, ◌≡◌, ap, ◌<◌, ◌+◌, ◌∙◌, length, map, set, IsSome, Some, None, sym, subst, arith, length-set}
+use Rattle.std.proofs.Common.{ℕ, ◌≡◌, ap, ◌<◌, ◌+◌, ◌^◌, ◌∙◌, length, map, set, IsSome, Some, None, sym, subst, arith, length-set}
 use Rattle.tree_path.specs.inner.Descent.{IsTrail}
-use Rattle.std.specs.Int.{to_be_bytes, w64}
-use Rattle.tree_edit.specs.inner.Ends.{at_side}
-use Rattle.tree_edit.proofs.EndLaws.{OnWay, way_start, way_short, way_there, way_none, way_step, way_end}
+use Rattle.std.specs.Int.{from_be_bytes, to_be_bytes, w64}
+use Rattle.std.proofs.lemmas.Nat.{from_be_bytes-to_be_bytes_8}
+use Rattle.tree_edit.specs.inner.Ends.{at_side, StartsFrom}
+use Rattle.tree_edit.proofs.EndLaws.{OnWay, way_start, way_short, way_there, way_none, way_step, way_end, way_bound}
 use Rattle.tree_links.specs.LinkNode.{LinkNode, looked_at}
 use Rattle.tree_links.specs.declared.link.Link.TheVariants.{Slot}
 use Rattle.tree_links.specs.Places.{as_linked}
-use Rattle.spec_node.specs.Key.{key_number}
+use Rattle.spec_node.specs.Key.{AreBytes, key_number}
+use Rattle.node_table.proofs.KeyLaws.{key_number-be_bytes}
+use Rattle.spec_map.specs.Map.{Rises}
+use Rattle.tree_path.specs.inner.Root.{tree_pairs}
 use Rattle.node_table.specs.Table.{node_at}
-use Rattle.tree_links.specs.SeenTable.{key_under, name_of, seen_node}
+use Rattle.tree_links.specs.SeenTable.{key_under, name_of, seen_link, seen_node}
+use Rattle.tree_edit.proofs.PopLaws.{key_bytes}
+use Rattle.tree_edit.specs.declared.ends.Side.TheVariants.{First}
 use Rattle.tree_edit.proofs.SideLaws.{side_link, no_side_link, names_set, names_long, pair_end}
 use Rattle.tree_edit.proofs.ends.seek_end.Given.{Over}
 use Rattle.tree_edit.proofs.ends.seek_end.Goals as goal
@@ -29,6 +35,20 @@ module _ (g : Over) (c : In-Some g) where
   abbrev n : LinkNode g.row.P.Denot
   n = as_linked c.in-Some.node.now
 
+  -- the bound comes before none of its links
+  starts : c.args.side ≡ First → StartsFrom c.to_be_bytes-bound.result n
+  starts first begins byte link is =
+      let s = c.args.nodes.now.table in
+      let trail = map name_of c.down.trail in
+      let w = subst (λ side. OnWay side s (name_of c.args.root) c.down.above (name_of c.down.slot) (name_of c.down.parent) trail) first c.down.invariant.0 in
+      let key = c.to_be_bytes-bound.result in
+      let bytes : AreBytes key = subst (λ k. AreBytes k) (sym c.to_be_bytes-bound.ensures) (key_bytes c.args.least) in
+      let full : length key ≡ 8 = ap (λ k. length k) c.to_be_bytes-bound.ensures in
+      let number : c.args.least ≡ key_number key = sym (key_number-be_bytes key full ∙ ap (λ k. from_be_bytes w64 k) c.to_be_bytes-bound.ensures ∙ from_be_bytes-to_be_bytes_8 c.args.least (omega arith)) in
+      let bound = subst (λ k. Rises k (2 ^ 64) (tree_pairs s (name_of c.args.root))) number (c.requires.bound first) in
+      way_bound s (name_of c.args.root) c.down.above (name_of c.down.slot) (name_of c.down.parent) trail w (seen_node c.down.slot n) (sym c.in-Some.ensures.node) key bytes full bound begins
+      byte (seen_link c.down.slot byte link) (sym (side_link c.down.slot First n.links byte link (sym is)))
+
   -- its child at the side is the next
   further : (byte below : ℕ) → Some (byte, Slot below) ≡ at_side c.args.side n.links
       → OnWay c.args.side c.args.nodes.now.table (name_of c.args.root) (c.down.above + 1) (name_of below) (name_of c.down.slot) (map name_of (set c.down.trail c.down.above c.down.slot)) × (length (set c.down.trail c.down.above c.down.slot) ≡ 8) × (c.down.above + 1 < 8)
@@ -43,6 +63,16 @@ module _ (g : Over) (c : In-Some g) where
         length-set c.down.trail c.down.above c.down.slot ∙ i.1,
         way_short c.args.side s (name_of c.args.root) _ _ _ _ way,
       )
+
+pub child_at-requires-clause-bound : goal.child_at-requires-clause-bound
+child_at-requires-clause-bound g c = starts g (goal.at.child_at-requires-clause-bound g c).In-Some
+
+pub down-preserved-in-Some-child_at : goal.down-preserved-in-Some-child_at
+down-preserved-in-Some-child_at g c =
+    let at = c.in-Some-child_at.ensures in further g (goal.at.down-preserved-in-Some-child_at g c).In-Some at.byte c.in-Some-child_at.below at.is
+
+pub link_at-requires-clause-bound : goal.link_at-requires-clause-bound
+link_at-requires-clause-bound g c = starts g (goal.at.link_at-requires-clause-bound g c).In-Some
 
 pub returns-in_default-link_at-clause-none : goal.returns-in_default-link_at-clause-none
 returns-in_default-link_at-clause-none g c =

@@ -1,0 +1,7 @@
+use Rattle.std.proofs.Common.{arith}
+use Rattle.congee_tree.proofs.LeastLaws.{popped_least}
+use Rattle.congee_tree.proofs.tree.RawCongee.pop_first.Goals as goal
+
+pub invariant_of-self-2 : goal.invariant_of-self-2
+invariant_of-self-2 g c =
+    popped_least _ _ c.in_ok-key.key c.in_ok-key.payload _ (rw (← c.self.view_is) at c.law_ordered.ensures) c.in_ok-key.ensures.pair c.in_ok-key.ensures.removes.pairs (omega (arith, c.saturating_add-self-inside.ensures))
