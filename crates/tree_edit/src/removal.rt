@@ -171,6 +171,7 @@ fn lower_if_alone<P: Drop>(nodes: &mut Nodes<P>, parent: usize, slot: usize, key
 
 // After the payload of a leaf was taken out: an empty leaf is taken out of its parent, as is what this leaves empty. A leaf
 // with few children left shrinks, and with one pair left goes back into its parent.
+#[inline(always)]
 fn settle<P: Drop, A: Allocator>(
     nodes: &mut Nodes<P>,
     supply: &mut Supply<A>,
@@ -204,6 +205,7 @@ fn settle<P: Drop, A: Allocator>(
 }
 
 // Takes the key's payload out of the leaf where its descent ended, if it is there, and then what this leaves empty.
+#[inline(always)]
 fn take_from_leaf<P: Drop, A: Allocator>(
     nodes: &mut Nodes<P>,
     supply: &mut Supply<A>,
@@ -236,6 +238,7 @@ fn take_from_leaf<P: Drop, A: Allocator>(
 }
 
 // Takes the key's pair out of the node where its descent ended, and then what this leaves empty.
+#[inline(always)]
 fn take_alone<P: Drop, A: Allocator>(
     nodes: &mut Nodes<P>,
     supply: &mut Supply<A>,
