@@ -26,9 +26,7 @@ fn is_rest(key: &[u8; 8], rest: &[u8; 7]) -> bool
     ensures other { result ≡ false → rest.now ≡ drop 1 key.now → ⊥ }
     ensures seven { length rest.now ≡ 7 }
 {
-    let [_, a, b, c, d, e, f, g] = *key;
-    let [h, i, j, k, l, m, n] = *rest;
-    a == h && b == i && c == j && d == k && e == l && f == m && g == n
+    key[1..] == rest[..]
 }
 
 // The first place at which the bytes and the key differ.
