@@ -1,3 +1,4 @@
+pub mod GrowLaws
 pub mod KindLaws
 pub mod RankLaws
 pub mod StepLaws

@@ -12,7 +12,8 @@ ghost use Rattle.node_base.specs.Form.{Fits};
 ghost use Rattle.node_base.specs.Rest.{rest};
 ghost use Rattle.node_base.specs.inner.Sorted.{pairs};
 ghost use Rattle.node_table.specs.Children.{children_left, MayYield};
-ghost use Rattle.node_table.specs.inner.Kinds.{with_child, without_child};
+ghost use Rattle.node_table.specs.inner.Kinds.{inner_node, places, with_child, without_child};
+ghost use Rattle.spec_node.specs.declared.child.Child.TheVariants.{Node};
 ghost use Rattle.spec_node.specs.Meeting.{IsMet, met_at};
 ghost use Rattle.spec_node.specs.TableNode.{MayHave, looked_at_ref};
 ghost use Rattle.node_rows.specs.Spare.{IsSpareFor};
@@ -22,7 +23,9 @@ ghost use Rattle.node_rows.specs.inner.Steps.{IsHeadOf};
 use crate::row_head::RowHead;
 use crate::spare::{Spare, make_room};
 use node_base::base_node::BaseNode;
+use node_base::head::Head;
 use node_base::iter::{Node16Iter, NodeIter};
+use node_table::kinds::InnerHead;
 use spec_node::child::{Child, ChildIter, ChildRef, Meeting};
 
 /// What all forms have.
@@ -217,7 +220,65 @@ pub(crate) fn exchange<P: Drop, C: Drop>(
     }
 }
 
+/// Replaces what a node with a row has in the place of a child, and returns the previous one. If there is none, `Err`
+/// returns the new one.
+#[inline(always)]
+pub(crate) fn exchange_place<P, C: Drop>(
+    head: &mut RowHead,
+    row: &mut Vec<C>,
+    byte: u8,
+    place: C,
+) -> Result<C, C>
+    requires { IsInnerRow head.old row.old }
+    ensures kind { IsInnerRow head.new row.new }
+    ensures before { IfOk result (λ c.
+        lookup (row_node {P = P} head.old row.old).children byte ≡ Some (Node c)) }
+    ensures after { OnOk result (row_node {P = P} head.new row.new
+        ≡ with_child (row_node head.old row.old) byte (Node place)) }
+    ensures absent { OnErr result
+        (lookup (row_node {P = P} head.old row.old).children byte ≡ None) }
+    ensures back { IfErr result (λ c. c ≡ place) }
+    ensures same { OnErr result
+        (row_node {P = P} head.new row.new ≡ row_node head.old row.old) }
+{
+    match head.replace(row, byte, place) {
+        Ok(before) => Ok(before),
+        Err(back) => Err(back),
+    }
+}
+
+/// Replaces what an inner node of another form has in the place of a child, and returns the previous one. If there is none,
+/// `Err` returns the new one.
+#[inline(always)]
+pub(crate) fn exchange_in<P, C, H: Head<C>>(
+    node: &mut InnerHead<H>,
+    row: &mut H::Row,
+    byte: u8,
+    place: C,
+) -> Result<C, C>
+    requires kind { H.IsNode node.old.head row.old × (length (H.prefix node.old.head) < 7) }
+    ensures kind { H.IsNode node.new.head row.new × (length (H.prefix node.new.head) < 7) }
+    ensures before { IfOk result (λ c. lookup (places {P = P} (H.children node.old.head row.old)) byte
+        ≡ Some (Node c)) }
+    ensures after { OnOk result (inner_node {P = P} (H.form node.new.head)
+        (H.prefix node.new.head) (H.children node.new.head row.new) ≡ with_child (inner_node
+        (H.form node.old.head) (H.prefix node.old.head) (H.children node.old.head row.old)) byte
+        (Node place)) }
+    ensures absent { OnErr result
+        (lookup (places {P = P} (H.children node.old.head row.old)) byte ≡ None) }
+    ensures back { IfErr result (λ c. c ≡ place) }
+    ensures same { OnErr result (inner_node {P = P} (H.form node.new.head)
+        (H.prefix node.new.head) (H.children node.new.head row.new) ≡ inner_node
+        (H.form node.old.head) (H.prefix node.old.head) (H.children node.old.head row.old)) }
+{
+    match node.head.exchange(row, byte, place) {
+        Ok(before) => Ok(before),
+        Err(back) => Err(back),
+    }
+}
+
 /// Takes out the child under a byte, if there is one, and returns it.
+#[inline(always)]
 pub(crate) fn take<P: Drop, C: Drop>(
     head: &mut RowHead,
     row: &mut Vec<C>,

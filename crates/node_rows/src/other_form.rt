@@ -1,17 +1,20 @@
 //! A node with a row made of one of another form, and the reverse. The old node is left without children.
 //!
-//! All memory is taken before the first change, and refused only for lack of it. While children move, the row has room
-//! for forty-eight.
+//! All memory is taken before the first change, and refused only for lack of it. Where a node shrinks, the row has room
+//! for forty-eight while children move. Where it grows, no child moves within a row.
 //!
 //! Tested in `test_owned` and `tools/dev/try-commands`.
 
-ghost use Rattle.std.specs.Prelude.{◌≡◌, ◌≤◌, [], length, IfOk, OnErr, OnOk, vec_capacity};
+ghost use Rattle.std.specs.Prelude.{◌≡◌, ◌≤◌, [], ◌∷◌, length, IfNone, IfOk, IfSome, OnErr, OnOk, vec_capacity};
+ghost use Rattle.node_base.specs.Rest.{rest};
 ghost use Rattle.node_base.specs.inner.Sorted.{pairs};
 ghost use Rattle.node_forms.specs.Heads.{IsNode16};
 ghost use Rattle.node_rows.specs.inner.Steps.{IsHeadOf, IsWholeRow};
 
 use crate::row_head::RowHead;
-use node_base::head::{Head, Own, Whole, move_children};
+use node_base::base_node::Node;
+use node_base::head::{Head, Whole, move_children};
+use node_base::iter::NodeIter;
 use node_forms::head_16::Head16;
 use node_forms::node_256::Node256;
 use node_forms::smaller::smaller_16;
@@ -51,26 +54,52 @@ fn make_whole<C: Drop>(row: &mut Vec<C>) -> Result<(), OOMError>
     Ok(())
 }
 
+// The byte of the first child that is left.
+#[inline(always)]
+fn next_byte<C>(children: &mut NodeIter<'_, C>) -> Option<u8>
+    ensures none { IfNone result (rest children.old ≡ []) }
+    ensures some { IfSome result (λ byte. (c : C) × (rest children.old
+        ≡ (byte, c) ∷ rest children.new)) }
+{
+    let (byte, _) = children.next()?;
+    Some(byte)
+}
+
+/// The head of a node for forty-eight with the prefix and the bytes of one for sixteen. The row is that of both, so no
+/// child moves, and no memory is taken.
+pub(crate) fn head_48<C: Drop>(old: &Head16, row: &Vec<C>) -> RowHead
+    requires { IsNode16 old.now row.now }
+    ensures node { IsHeadOf result row.now.items }
+    ensures prefix { result.base.prefix ≡ old.now.base.prefix }
+    ensures children { pairs result.keys row.now.items ≡ pairs old.now.keys row.now.items }
+{
+    let mut head = RowHead::new(old.base(row).prefix());
+    let mut children = old.get_children(row, 0, 255);
+    'bytes: while let Some(byte) = next_byte(&mut children) {
+        head.add_byte(byte);
+    }
+    head
+}
+
 /// A node of the largest form with the prefix and the children of one with a row.
 pub(crate) fn larger_256<C: Drop>(
     alloc: Global,
-    old: &mut RowHead,
+    old: &RowHead,
     row: &mut Vec<C>,
 ) -> Result<Whole<Node256<C>>, OOMError>
-    requires { IsHeadOf old.old row.old.items }
-    ensures prefix { IfOk result (λ n. n.node.prefix ≡ old.old.base.prefix) }
-    ensures children { IfOk result (λ n. n.node.children ≡ pairs old.old.keys row.old.items) }
-    ensures same { OnErr result (old.new ≡ old.old) }
-    ensures items { OnErr result (row.new.items ≡ row.old.items) }
-    ensures capacity { OnErr result (vec_capacity row.old ≤ vec_capacity row.new) }
+    requires { IsHeadOf old.now row.old.items }
+    ensures prefix { IfOk result (λ n. n.node.prefix ≡ old.now.base.prefix) }
+    ensures children { IfOk result (λ n. n.node.children ≡ pairs old.now.keys row.old.items) }
+    ensures same { OnErr result (row.new ≡ row.old) }
 {
     // (for the proof: brings the number of children into scope)
     let prefix = old.base_of(row).prefix();
-    let node = Node256::new(alloc, prefix)?;
-    let mut head = Whole { node };
-    make_whole(row)?;
-    move_children(old, row, &mut head, &mut Own);
-    Ok(head)
+    let mut node = Node256::new(alloc, prefix)?;
+    // (from the last one on, so that none of the others moves)
+    'children: while let Some(child) = row.pop() {
+        node.insert(old.keys[row.len()], child);
+    }
+    Ok(Whole { node })
 }
 
 /// A node of the form for sixteen with the prefix and the children of one with a row.

@@ -3,7 +3,7 @@
 //!
 //! Tested in `test_owned` and `tools/dev/try-commands`.
 
-ghost use Rattle.std.specs.Prelude.{◌≡◌, ◌+◌, ◌<◌, ◌≤◌, length, None, Some, IfOk, IfErr, OnOk, OnErr, option_copied, vec_capacity};
+ghost use Rattle.std.specs.Prelude.{◌≡◌, ◌+◌, ◌<◌, ◌≤◌, length, None, Some, IfOk, IfErr, OnOk, OnErr, option_copied, slice_set, vec_capacity};
 ghost use Rattle.std.specs.Option.{option_map};
 ghost use Rattle.spec_map.specs.Map.{lookup, put, without, between, Rises};
 ghost use Rattle.spec_map.specs.Near.{below_of};
@@ -134,6 +134,20 @@ impl RowHead {
             Ok(()) => {}
             Err(_) => unreachable!(),
         }
+        self.base.count_up();
+    }
+
+    /// Adds a byte, which is above all others, where the row has a child more than there are bytes.
+    #[inline(always)]
+    pub(crate) fn add_byte(&mut self, byte: u8)
+        requires few { self.old.base.count < 48 }
+        requires long { length self.old.keys ≡ 48 }
+        ensures keys { self.new.keys ≡ slice_set self.old.keys self.old.base.count byte }
+        ensures base { self.new.base
+            ≡ record self.old.base { count = self.old.base.count + 1 } }
+    {
+        let count = self.base.value_count() as usize;
+        self.keys[count] = byte;
         self.base.count_up();
     }
 

@@ -32,6 +32,7 @@ use std::alloc::Global;
 use std::marker::Model;
 
 mod payloads;
+mod places;
 mod sizes;
 
 /// A node of a tree in one table. Below seven bytes it is a leaf, whose children are payloads, and below fewer an inner
@@ -209,6 +210,8 @@ impl<P: Drop, C: Drop> RowNode<P, C> {
     ///
     /// So a scan of all children takes constant work a child in each form: the bytes of a small node are searched at
     /// once, the index of a `Node48` is passed once in the whole scan, and the mask of a `Node256` 64 bytes a step.
+    // (inline, as the number that it is asked with is most often known)
+    #[inline(always)]
     pub fn first_ref_from(&self, from: usize) -> Option<(u8, ChildRef<'_, P, &C>)>
         ensures none { IfNone result (between self.now.children from 256 ≡ []) }
         ensures some { IfSome result (λ found. between self.now.children from 256
@@ -235,6 +238,8 @@ impl<P: Drop, C: Drop> RowNode<P, C> {
     ///
     /// The bytes of a small node are searched at once, the index of a `Node48` is passed downward, and the mask of a
     /// `Node256` 64 bytes a step.
+    // (inline, as the number that it is asked with is most often known)
+    #[inline(always)]
     pub fn last_ref_below(&self, to: usize) -> Option<(u8, ChildRef<'_, P, &C>)>
         requires { to ≤ 256 }
         ensures { option_map (λ found. (found.0, looked_at_ref found.1)) result
@@ -331,6 +336,8 @@ impl<P: Drop, C: Drop> RowNode<P, C> {
     }
 
     /// Takes out the child under a byte, if there is one, and returns it. The node is searched once.
+    // (inline, as `exchange`: the end of each removal of a pair)
+    #[inline(always)]
     pub fn take(&mut self, byte: u8) -> Option<Child<P, C>>
         ensures before { result ≡ lookup self.old.children byte }
         ensures after { self.new ≡ record self.old { children = without self.old.children byte } }

@@ -13,7 +13,7 @@ ghost use Rattle.tree_path.specs.inner.Root.{HasTree, tree_pairs, tree_nodes};
 ghost use Rattle.tree_edit.specs.Reduce.{AreFilled, LosesInPlace};
 ghost use Rattle.tree_edit.specs.TreeCalls.{Removes};
 ghost use Rattle.tree_edit.specs.declared.ends.Side.TheVariants.{First};
-ghost use Rattle.tree_edit.specs.inner.Ends.{at_side, HasSlotAt, StartsFrom};
+ghost use Rattle.tree_edit.specs.inner.Ends.{at_side, StartsFrom};
 ghost use Rattle.tree_links.specs.LinkNode.{looked_at};
 ghost use Rattle.tree_links.specs.Places.{as_linked};
 ghost use Rattle.tree_links.specs.SeenTable.{name_of};
@@ -36,7 +36,7 @@ pub enum Side {
 }
 
 // The node's first link, and its byte, where none of its links comes before the key. So what the node has under the key's
-// byte is the first. `word` has the key's bytes.
+// byte is the first: it is met as in a look-up, by one jump. `word` has the key's bytes.
 #[inline(always)]
 fn first_link<'a, P: Drop>(
     node: &'a Linked<P>,
@@ -49,13 +49,17 @@ fn first_link<'a, P: Drop>(
         ≡ first_of (as_linked node.now).links }
 {
     let base = LinkedNode::base(node);
-    if base.begins(word) {
-        let byte = key[base.prefix().len()];
-        if let Some(link) = LinkedNode::get_link(node, byte) {
-            return Some((byte, link));
+    match LinkedNode::meet(node, key, word) {
+        LinkMeeting::Slot(below) => Some((key[base.prefix().len()], LinkRef::Slot(below))),
+        LinkMeeting::Pair(rest, payload) => {
+            Some((key[base.prefix().len()], LinkRef::Pair(rest, payload)))
         }
+        LinkMeeting::Leaf => match LinkedNode::get_link(node, key[7]) {
+            Some(link) => Some((key[7], link)),
+            None => LinkedNode::first_from(node, 0),
+        },
+        _ => LinkedNode::first_from(node, 0),
     }
-    LinkedNode::first_from(node, 0)
 }
 
 // The node's first link or its last, and the byte. None of its links comes before the key, where the first is asked for.
@@ -76,29 +80,6 @@ fn link_at<'a, P: Drop>(
     match side {
         Side::First => first_link(node, key, word),
         Side::Last => LinkedNode::last_below(node, 256),
-    }
-}
-
-// The slot of the node's first child, where the key leads there. None of the node's links comes before the key, where the
-// first is asked for.
-//
-// So the path of a key that is nearly the first is gone down as in a look-up, by one jump for each node.
-#[inline(always)]
-fn child_at<P: Drop>(node: &Linked<P>, side: Side, key: &[u8; 8], word: u64) -> Option<usize>
-    requires word { to_be_bytes w64 word ≡ key.now }
-    requires bound { side ≡ First → StartsFrom key.now (as_linked node.now) }
-    ensures { IfSome result (λ below. HasSlotAt side below (as_linked node.now)) }
-{
-    match side {
-        Side::First => match LinkedNode::meet(node, key, word) {
-            LinkMeeting::Slot(below) => {
-                // (for the proof: brings the order of the bytes into scope)
-                let _ = LinkedNode::base(node);
-                Some(below)
-            }
-            _ => None,
-        },
-        Side::Last => None,
     }
 }
 
@@ -139,12 +120,6 @@ fn seek_end<P: Drop>(
         let Some(node) = nodes.get(slot) else {
             unreachable!()
         };
-        if let Some(below) = child_at(node, side, &bound, least) {
-            parent = slot;
-            slot = below;
-            above += 1;
-            continue;
-        }
         let Some((byte, link)) = link_at(node, side, &bound, least) else {
             return None;
         };

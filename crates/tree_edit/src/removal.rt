@@ -81,6 +81,7 @@ fn shrink<P: Drop, A: Allocator>(
 
 /// Puts the node in a slot into its next smaller form if it has few children left and nodes are to shrink. Without
 /// memory for that it is unchanged.
+#[inline(always)]
 pub(crate) fn shrink_if_due<P: Drop, A: Allocator>(
     nodes: &mut Nodes<P>,
     supply: &mut Supply<A>,
@@ -144,6 +145,7 @@ fn tidy<P: Drop, A: Allocator>(
 }
 
 // Whether the node in a slot has the smallest form and one child.
+#[inline(always)]
 fn is_alone<P: Drop>(nodes: &Nodes<P>, slot: usize) -> bool
     requires { IsSome (node_at nodes.now.table (name_of slot)) }
     ensures { (n : TableNode P) → node_at nodes.now.table (name_of slot) ≡ Some n
@@ -156,6 +158,7 @@ fn is_alone<P: Drop>(nodes: &Nodes<P>, slot: usize) -> bool
 }
 
 // Puts the leaf in a slot back into its parent on the key's path, if it has the smallest form and one pair.
+#[inline(always)]
 fn lower_if_alone<P: Drop>(nodes: &mut Nodes<P>, parent: usize, slot: usize, key: &[u8; 8])
     requires { HasLeafOnPath nodes.old.table (name_of parent) (name_of slot) key.now }
     ensures { SameOnPath nodes.old.table nodes.new.table (name_of parent) key.now }
@@ -168,6 +171,7 @@ fn lower_if_alone<P: Drop>(nodes: &mut Nodes<P>, parent: usize, slot: usize, key
 
 // After the payload of a leaf was taken out: an empty leaf is taken out of its parent, as is what this leaves empty. A leaf
 // with few children left shrinks, and with one pair left goes back into its parent.
+#[inline(always)]
 fn settle<P: Drop, A: Allocator>(
     nodes: &mut Nodes<P>,
     supply: &mut Supply<A>,
@@ -201,6 +205,7 @@ fn settle<P: Drop, A: Allocator>(
 }
 
 // Takes the key's payload out of the leaf where its descent ended, if it is there, and then what this leaves empty.
+#[inline(always)]
 fn take_from_leaf<P: Drop, A: Allocator>(
     nodes: &mut Nodes<P>,
     supply: &mut Supply<A>,
@@ -233,6 +238,7 @@ fn take_from_leaf<P: Drop, A: Allocator>(
 }
 
 // Takes the key's pair out of the node where its descent ended, and then what this leaves empty.
+#[inline(always)]
 fn take_alone<P: Drop, A: Allocator>(
     nodes: &mut Nodes<P>,
     supply: &mut Supply<A>,

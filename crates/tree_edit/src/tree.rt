@@ -159,6 +159,7 @@ impl<P: Drop, A: Allocator> Tree<P, A> {
 
     /// Gives the slots of former nodes back to the machine once no pair is left, and where nodes are to shrink, also once
     /// three quarters of the slots aren't needed.
+    #[inline(always)]
     pub(crate) fn release_slots(&mut self, shrinks: bool)
         ensures { self.new ≡ self.old }
     {

@@ -56,6 +56,8 @@ impl<P: Drop> Links<P> {
     }
 
     /// Replaces the payload of a pair under a byte of the node in a slot, and returns the previous one.
+    // (inline, as what it calls: the end of each insertion at a key whose pair is in its parent)
+    #[inline(always)]
     pub fn change_pair(&mut self, slot: usize, byte: u8, key: &[u8; 8], payload: P) -> P
         requires { HasPair self.old.table (name_of slot) byte (name_under slot byte) key.now }
         ensures changes { ChangesLeaf self.old.table self.new.table (name_under slot byte) key.now

@@ -7,6 +7,7 @@ ghost use Rattle.spec_map.specs.Map.{lookup};
 ghost use Rattle.node_base.specs.Form.{Fits};
 ghost use Rattle.node_base.specs.declared.base_node.NodeType.TheVariants.{N48};
 ghost use Rattle.spec_node.specs.TableNode.{looked_at_ref};
+ghost use Rattle.spec_node.specs.declared.child.Child.TheVariants.{Node};
 ghost use Rattle.node_rows.specs.Spare.{IsSpareFor};
 ghost use Rattle.tree_links.specs.LinkNode.{MayLink, looked_at, with_link};
 ghost use Rattle.tree_links.specs.Places.{as_link, as_linked};
@@ -67,6 +68,27 @@ fn link_at<'a, P>(child: ChildRef<'a, P, &'a Place<P>>) -> LinkRef<'a, P>
     }
 }
 
+// Replaces what an inner node has in the place of a child, as a link.
+#[inline(always)]
+fn exchange_place<P: Drop>(
+    node: &mut Linked<P>,
+    byte: u8,
+    place: Place<P>,
+) -> Result<Link<P>, Link<P>>
+    requires inner { length node.old.prefix < 7 }
+    ensures before { IfOk result (λ c. lookup (as_linked node.old).links byte ≡ Some c) }
+    ensures after { OnOk result
+        (as_linked node.new ≡ with_link (as_linked node.old) byte (as_link (Node place))) }
+    ensures absent { OnErr result (lookup (as_linked node.old).links byte ≡ None) }
+    ensures back { IfErr result (λ c. c ≡ as_link (Node place)) }
+    ensures same { OnErr result (as_linked node.new ≡ as_linked node.old) }
+{
+    match node.exchange_place(byte, place) {
+        Ok(before) => Ok(link_of(Child::Node(before))),
+        Err(back) => Err(link_of(Child::Node(back))),
+    }
+}
+
 impl<P: Drop> LinkedNode<P> for RowNode<P, Place<P>> {
     ghost use Rattle.tree_links.specs.Places.{as_linked};
 
@@ -121,7 +143,7 @@ impl<P: Drop> LinkedNode<P> for RowNode<P, Place<P>> {
         }
     }
 
-    #[inline]
+    #[inline(always)]
     fn first_from<'a>(&'a self, from: usize) -> Option<(u8, LinkRef<'a, P>)> {
         match self.first_ref_from(from) {
             Some((byte, child)) => Some((byte, link_at(child))),
@@ -129,7 +151,7 @@ impl<P: Drop> LinkedNode<P> for RowNode<P, Place<P>> {
         }
     }
 
-    #[inline]
+    #[inline(always)]
     fn last_below<'a>(&'a self, to: usize) -> Option<(u8, LinkRef<'a, P>)> {
         match self.last_ref_below(to) {
             Some((byte, child)) => Some((byte, link_at(child))),
@@ -167,9 +189,13 @@ impl<P: Drop> LinkedNode<P> for RowNode<P, Place<P>> {
         ensures back { IfErr result (λ c. c ≡ link) }
         ensures same { OnErr result (as_linked self.new ≡ as_linked self.old) }
     {
-        match self.exchange(byte, child_of(link)) {
-            Ok(before) => Ok(link_of(before)),
-            Err(back) => Err(link_of(back)),
+        match link {
+            Link::Slot(slot) => exchange_place(self, byte, Place::Slot(slot)),
+            Link::Pair(rest, payload) => exchange_place(self, byte, Place::Pair(rest, payload)),
+            Link::Payload(payload) => match self.exchange(byte, Child::Payload(payload)) {
+                Ok(before) => Ok(link_of(before)),
+                Err(back) => Err(link_of(back)),
+            },
         }
     }
 

@@ -29,6 +29,7 @@ impl<P: Drop> Links<P> {
     }
 
     /// Its form.
+    #[inline(always)]
     pub fn form_of(&self, slot: usize) -> NodeType
         requires { IsSome (node_at self.now.table (name_of slot)) }
         ensures { (n : TableNode P) → node_at self.now.table (name_of slot) ≡ Some n
@@ -59,6 +60,7 @@ impl<P: Drop> Links<P> {
     }
 
     /// Whether it has no children.
+    #[inline(always)]
     pub fn is_empty(&self, slot: usize) -> bool
         requires { IsSome (node_at self.now.table (name_of slot)) }
         ensures { (n : TableNode P) → node_at self.now.table (name_of slot) ≡ Some n

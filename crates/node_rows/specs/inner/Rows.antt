@@ -1,5 +1,5 @@
 -- The two kinds of nodes, and what a contract sees of each.
-use Rattle.std.specs.Prelude.{◌≡◌, ℕ, ◌<◌, length}
+use Rattle.std.specs.Prelude.{◌≡◌, ◌<◌, length}
 use Rattle.std.specs.Global.{Vec}
 use Rattle.node_base.specs.declared.base_node.NodeType.TheVariants.{N4, N16, N48, N256}
 use Rattle.node_base.specs.inner.Few.{listed}

@@ -5,7 +5,7 @@
 ghost use Rattle.std.specs.Prelude.{◌≡◌, ◌+◌, length, OnErr, OnOk};
 ghost use Rattle.node_base.specs.Form.{Fits, next_form, smaller_form};
 
-use crate::other_form::{larger_256, row_16, row_from};
+use crate::other_form::{head_48, larger_256, row_16, row_from};
 use crate::row_node::{RowKind, RowNode};
 use node_base::head::{Own, Whole};
 use node_forms::head_16::Head16;
@@ -15,6 +15,7 @@ use node_forms::smaller::{smaller_4, smaller_16, smaller_48};
 use node_table::kinds::{InnerHead, Leaf};
 use spec_map::error::OOMError;
 use std::alloc::Global;
+use std::mem;
 
 impl<P: Drop, C: Drop> RowNode<P, C> {
     /// Becomes the next form with the same prefix and children; the largest stays.
@@ -30,10 +31,10 @@ impl<P: Drop, C: Drop> RowNode<P, C> {
                 Ok((head, row)) => RowKind::Inner16(InnerHead { head }, row),
                 Err(error) => return Err(error),
             },
-            RowKind::Inner16(old, row) => match row_from(alloc, &mut old.head, row) {
-                Ok((head, row)) => RowKind::Inner48(head, row),
-                Err(error) => return Err(error),
-            },
+            RowKind::Inner16(old, row) => {
+                let head = head_48(&old.head, row);
+                RowKind::Inner48(head, mem::replace(row, Vec::new(alloc)))
+            }
             RowKind::Inner48(old, row) => match larger_256(alloc, old, row) {
                 Ok(head) => RowKind::Inner256(InnerHead { head }, Own),
                 Err(error) => return Err(error),

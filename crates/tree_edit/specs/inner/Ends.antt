@@ -6,7 +6,6 @@ use Rattle.tree_edit.specs.declared.ends.Side.{Side}
 use Rattle.tree_edit.specs.declared.ends.Side.TheVariants.{First, Last}
 use Rattle.tree_links.specs.LinkNode.{LinkNode}
 use Rattle.tree_links.specs.declared.link.Link.{Link}
-use Rattle.tree_links.specs.declared.link.Link.TheVariants.{Slot}
 
 abbrev pub at_side : {V : Type 0} → Side → List (ℕ × V) → Option (ℕ × V)
 at_side First es = first_of es
@@ -15,8 +14,3 @@ at_side Last es = last_of es
 -- no link of the node is under a byte below the key's, if the key begins as the node does
 abbrev pub StartsFrom : {P : Type 0} → List ℕ → LinkNode P → Type 0
 StartsFrom {P} key n = Begins n.prefix key → (byte : ℕ) (c : Link P) → first_of n.links ≡ Some (byte, c) → next_byte n.prefix key ≤ byte
-
--- the node's link at a side is this slot
-pub record HasSlotAt {P : Type 0} (side : Side) (below : ℕ) (n : LinkNode P) : Type 0 where
-  pub byte : ℕ
-  pub is : Some (byte, Slot below) ≡ at_side side n.links

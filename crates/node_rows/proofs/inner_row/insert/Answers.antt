@@ -1,6 +1,5 @@
-use Rattle.std.proofs.Common.{◌≡◌, ◌+◌, ◌≤◌, ◌<◌, ◌∙◌, length, None, Option, ap, sym, subst, refl, arith}
+use Rattle.std.proofs.Common.{◌∙◌, length, ap, subst, refl, arith}
 use Rattle.spec_map.specs.Map.{lookup, put}
-use Rattle.std.specs.Global.{Vec}
 use Rattle.node_base.specs.inner.Sorted.{pairs}
 use Rattle.node_forms.proofs.SortedLaws.{length-sorted}
 use Rattle.spec_node.specs.declared.child.Child.{Child as ChildOf}

@@ -64,13 +64,6 @@ module _ (g : Over) (c : In-Some g) where
         way_short c.args.side s (name_of c.args.root) _ _ _ _ way,
       )
 
-pub child_at-requires-clause-bound : goal.child_at-requires-clause-bound
-child_at-requires-clause-bound g c = starts g (goal.at.child_at-requires-clause-bound g c).In-Some
-
-pub down-preserved-in-Some-child_at : goal.down-preserved-in-Some-child_at
-down-preserved-in-Some-child_at g c =
-    let at = c.in-Some-child_at.ensures in further g (goal.at.down-preserved-in-Some-child_at g c).In-Some at.byte c.in-Some-child_at.below at.is
-
 pub link_at-requires-clause-bound : goal.link_at-requires-clause-bound
 link_at-requires-clause-bound g c = starts g (goal.at.link_at-requires-clause-bound g c).In-Some
 

@@ -8,19 +8,16 @@ use Rattle.spec_node.specs.declared.child.Child.TheVariants.{Node, Payload}
 use Rattle.node_table.specs.inner.Kinds.{mapped}
 use Rattle.node_table.proofs.KindLaws.{one_more}
 use Rattle.node_rows.proofs.KindLaws.{here, node_same, of_kind}
-use Rattle.node_rows.proofs.StepLaws.{whole_row}
 use Rattle.node_rows.proofs.row_node.RowNode.grow.Goals as goal
-use Rattle.node_rows.proofs.row_node.RowNode.grow.Goals.{in-Inner4+in-Ok, in-Inner16+in-Ok-row_from, in-Inner48+in-Ok-larger_256, in-Leaf4+in-Ok-grown_from, in-Leaf16+in-Ok-grown_from_parts, in-Leaf48+in-Ok-grown_from-2}
-
-pub row_from-requires-clause-few : goal.row_from-requires-clause-few
-row_from-requires-clause-few g c =
-    let s = (of_kind _ _ c.self.invariant c.in-Inner16.is).0.0 in
-    omega (arith, length-sorted s, s.within)
+use Rattle.node_rows.proofs.row_node.RowNode.grow.Goals.{in-Inner4+in-Ok, in-Inner16, in-Inner48+in-Ok-larger_256, in-Leaf4+in-Ok-grown_from, in-Leaf16+in-Ok-grown_from_parts, in-Leaf48+in-Ok-grown_from-2}
 
 pub invariant_of-self-2 : goal.invariant_of-self-2
 invariant_of-self-2 g c = elim c.match-self.branch [
   | in-Inner4+in-Ok w ↦ rw w.grown-is (w.in-Ok.ensures.node, subst (λ (p : List ℕ). length p < 7) (sym w.in-Ok.ensures.prefix) (of_kind _ _ c.self.invariant w.in-Inner4.is).1)
-  | in-Inner16+in-Ok-row_from w ↦ rw w.grown-is (whole_row w.in-Ok-row_from.head w.in-Ok-row_from.row w.in-Ok-row_from.ensures.node, subst (λ (p : List ℕ). length p < 7) (sym w.in-Ok-row_from.ensures.prefix) (of_kind _ _ c.self.invariant w.in-Inner16.is).1)
+  | in-Inner16 w ↦
+      let h = of_kind _ _ c.self.invariant w.in-Inner16.is in
+      rw (w.grown-is, w.replace.ensures.value)
+      ((w.head_48-head.ensures.node, (h.0.2, omega (arith, h.0.0.within, h.0.2))), subst (λ (p : List ℕ). length p < 7) (sym w.head_48-head.ensures.prefix) h.1)
   | in-Inner48+in-Ok-larger_256 w ↦ rw w.grown-is (tt, subst (λ (p : List ℕ). length p < 7) (sym w.in-Ok-larger_256.ensures.prefix) (of_kind _ _ c.self.invariant w.in-Inner48.is).1)
   | in-Leaf4+in-Ok-grown_from w ↦ rw w.grown-is (w.in-Ok-grown_from.ensures.node, subst (λ (p : List ℕ). length p ≡ 7) (sym w.in-Ok-grown_from.ensures.prefix) (of_kind _ _ c.self.invariant w.in-Leaf4.is).1)
   | in-Leaf16+in-Ok-grown_from_parts w ↦ rw w.grown-is (tt, subst (λ (p : List ℕ). length p ≡ 7) (sym w.in-Ok-grown_from_parts.ensures.prefix) (of_kind _ _ c.self.invariant w.in-Leaf16.is).1)
@@ -32,9 +29,9 @@ returns-clause-ok g c = elim c.match-self.branch [
   | in-Inner4+in-Ok w ↦
       let at = here _ _ _ c.self.view_is w.in-Inner4.is in
       rw w.grown-is (node_same _ _ _ _ _ _ (sym (ap (λ (m : TableNodeOf g.row.P.Denot g.row.C.Denot). next_form m.form) at)) (w.in-Ok.ensures.prefix ∙ sym (ap (λ (m : TableNodeOf g.row.P.Denot g.row.C.Denot). m.prefix) at)) (ap (λ xs. mapped {D = ChildOf g.row.P.Denot g.row.C.Denot} (λ child. Node child) xs) w.in-Ok.ensures.children ∙ sym (ap (λ (m : TableNodeOf g.row.P.Denot g.row.C.Denot). m.children) at)))
-  | in-Inner16+in-Ok-row_from w ↦
+  | in-Inner16 w ↦
       let at = here _ _ _ c.self.view_is w.in-Inner16.is in
-      rw w.grown-is (node_same _ _ _ _ _ _ (sym (ap (λ (m : TableNodeOf g.row.P.Denot g.row.C.Denot). next_form m.form) at)) (w.in-Ok-row_from.ensures.prefix ∙ sym (ap (λ (m : TableNodeOf g.row.P.Denot g.row.C.Denot). m.prefix) at)) (ap (λ xs. mapped {D = ChildOf g.row.P.Denot g.row.C.Denot} (λ child. Node child) xs) w.in-Ok-row_from.ensures.children ∙ sym (ap (λ (m : TableNodeOf g.row.P.Denot g.row.C.Denot). m.children) at)))
+      rw (w.grown-is, w.replace.ensures.value) (node_same _ _ _ _ _ _ (sym (ap (λ (m : TableNodeOf g.row.P.Denot g.row.C.Denot). next_form m.form) at)) (w.head_48-head.ensures.prefix ∙ sym (ap (λ (m : TableNodeOf g.row.P.Denot g.row.C.Denot). m.prefix) at)) (ap (λ xs. mapped {D = ChildOf g.row.P.Denot g.row.C.Denot} (λ child. Node child) xs) w.head_48-head.ensures.children ∙ sym (ap (λ (m : TableNodeOf g.row.P.Denot g.row.C.Denot). m.children) at)))
   | in-Inner48+in-Ok-larger_256 w ↦
       let at = here _ _ _ c.self.view_is w.in-Inner48.is in
       rw w.grown-is (node_same _ _ _ _ _ _ (sym (ap (λ (m : TableNodeOf g.row.P.Denot g.row.C.Denot). next_form m.form) at)) (w.in-Ok-larger_256.ensures.prefix ∙ sym (ap (λ (m : TableNodeOf g.row.P.Denot g.row.C.Denot). m.prefix) at)) (ap (λ xs. mapped {D = ChildOf g.row.P.Denot g.row.C.Denot} (λ child. Node child) xs) w.in-Ok-larger_256.ensures.children ∙ sym (ap (λ (m : TableNodeOf g.row.P.Denot g.row.C.Denot). m.children) at)))
@@ -52,9 +49,9 @@ returns-clause-ok g c = elim c.match-self.branch [
 pub returns-clause-room : goal.returns-clause-room
 returns-clause-room g c = elim c.match-self.branch [
   | in-Inner4+in-Ok w ↦ rw w.grown-is (one_more {D = ChildOf g.row.P.Denot g.row.C.Denot} (λ child. Node child) (pairs w.in-Ok.head.keys w.in-Ok.row.items) 16 w.in-Ok.ensures.room)
-  | in-Inner16+in-Ok-row_from w ↦
+  | in-Inner16 w ↦
       let s = (of_kind _ _ c.self.invariant w.in-Inner16.is).0.0 in
-      rw w.grown-is (one_more {D = ChildOf g.row.P.Denot g.row.C.Denot} (λ child. Node child) (pairs w.in-Ok-row_from.head.keys w.in-Ok-row_from.row.items) 48 (omega (arith, ap length w.in-Ok-row_from.ensures.children, length-sorted s, s.within)))
+      rw (w.grown-is, w.replace.ensures.value) (one_more {D = ChildOf g.row.P.Denot g.row.C.Denot} (λ child. Node child) (pairs w.head_48-head.result.keys w.in-Inner16.row.items) 48 (omega (arith, ap length w.head_48-head.ensures.children, length-sorted s, s.within)))
   | in-Inner48+in-Ok-larger_256 w ↦ rw w.grown-is tt
   | in-Leaf4+in-Ok-grown_from w ↦ rw w.grown-is (one_more {D = ChildOf g.row.P.Denot g.row.C.Denot} (λ v. Payload v) (pairs w.in-Ok-grown_from.head.keys w.in-Ok-grown_from.row.items) 16 w.in-Ok-grown_from.ensures.room)
   | in-Leaf16+in-Ok-grown_from_parts w ↦ rw w.grown-is (one_more {D = ChildOf g.row.P.Denot g.row.C.Denot} (λ v. Payload v) w.in-Ok-grown_from_parts.node.children 48 w.in-Ok-grown_from_parts.ensures.room)

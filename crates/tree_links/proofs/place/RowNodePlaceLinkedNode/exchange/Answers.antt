@@ -1,4 +1,5 @@
-use Rattle.std.proofs.Common.{Some, ap, sym, ◌∙◌}
+use Rattle.std.proofs.Common.{Some, ap, sym, refl, ◌∙◌}
+use Rattle.spec_node.specs.declared.child.Child.TheVariants.{Payload}
 use Rattle.node_table.proofs.KindLaws.{lookup-mapped_some, lookup-mapped_none}
 use Rattle.tree_links.specs.Places.{as_link}
 use Rattle.tree_links.proofs.PlaceLaws.{put_link}
@@ -9,7 +10,7 @@ returns-in-Ok-clause-before g c =
     lookup-mapped_some as_link c.args.self.now.children c.args.byte c.in-Ok.before c.in-Ok.ensures.before ∙ ap (λ x. Some x) (sym c.link_of.ensures)
 
 pub returns-in-Ok-clause-after : goal.returns-in-Ok-clause-after
-returns-in-Ok-clause-after g c = put_link c.args.self.now _ c.args.byte _ _ c.child_of.ensures c.in-Ok.ensures.after
+returns-in-Ok-clause-after g c = rw c.in-Payload.is (put_link c.args.self.now _ c.args.byte (Payload c.in-Payload.payload) _ refl c.in-Ok.ensures.after)
 
 pub returns-in-Err-clause-absent : goal.returns-in-Err-clause-absent
 returns-in-Err-clause-absent g c = lookup-mapped_none as_link c.args.self.now.children c.args.byte c.in-Err.ensures.absent
