@@ -1,11 +1,13 @@
 -- The bytes of a key, and which of them another word has.
-use Rattle.std.proofs.Common.{◌≡◌, ◌≢◌, ℕ, zero, suc, ◌+◌, ◌-◌, ◌*◌, ◌/◌, ◌%◌, ◌^◌, ◌<◌, ◌≤◌, Bool, false, not, cond, List, length, get_or, eqb, map, w8, w64, refl, sym, ap, ◌∙◌, subst, arith, inl, inr}
+use Rattle.std.proofs.Common.{◌≡◌, ◌≢◌, ℕ, zero, suc, ◌+◌, ◌-◌, ◌*◌, ◌/◌, ◌%◌, ◌^◌, ◌<◌, ◌≤◌, Bool, false, not, cond, nat_eq, IsTrue, List, length, get_or, eqb, map, w8, w64, refl, sym, ap, ◌∙◌, subst, arith, inl, inr}
 use Rattle.std.specs.Int.{bit_at, to_be_bytes, to_le_bytes, swap_bytes}
 use Rattle.std.specs.Int.RustNames.{bit_and}
 use Rattle.std.specs.Int.Count.{count_trailing_zeros}
 use Rattle.std.specs.Simd.Lanes.{mask_l, zip2, top}
 use Rattle.std.proofs.Math.Nat.{div-one, div-div-eq-div-mul, mul-suc}
-use Rattle.std.proofs.lemmas.Nat.{pow-add, and_le_l, le_bytes_8}
+use Rattle.std.proofs.lemmas.Nat.{pow-add, and_le_l}
+use Rattle.std.proofs.lemmas.List.{get_or-take}
+use Rattle.node_base.proofs.WordLaws.{shifts_alike}
 use Rattle.std.proofs.lemmas.Nat.Bits.{bit_at-zero, bit_at-trailing_zeros}
 use Rattle.std.proofs.lemmas.Simd.{tops_compared, mask_l-mod, bit_mask_l, get_or-zip2}
 use Rattle.std.proofs.lemmas.Bool.{eq-eqb, ne_eqb, cases_eq}
@@ -37,27 +39,52 @@ seven key (suc (suc (suc (suc (suc (suc zero)))))) l h = moved key 1
 seven key (suc (suc (suc (suc (suc (suc (suc zero))))))) l h = refl
 seven key (suc (suc (suc (suc (suc (suc (suc (suc i)))))))) l h = absurd (omega (arith, h))
 
-turned : (a b c d e f g h : ℕ) → a + b + c + d + e + f + g + h ≡ h + g + f + e + d + c + b + a
-turned a b c d e f g h = omega arith
+le_small : (n i : ℕ) → get_or (to_le_bytes w64 n) i 0 < 256
+le_small n zero = omega arith
+le_small n (suc zero) = omega arith
+le_small n (suc (suc zero)) = omega arith
+le_small n (suc (suc (suc zero))) = omega arith
+le_small n (suc (suc (suc (suc zero)))) = omega arith
+le_small n (suc (suc (suc (suc (suc zero))))) = omega arith
+le_small n (suc (suc (suc (suc (suc (suc zero)))))) = omega arith
+le_small n (suc (suc (suc (suc (suc (suc (suc zero))))))) = omega arith
+le_small n (suc (suc (suc (suc (suc (suc (suc (suc i)))))))) = omega arith
 
-bytes_small : (n i : ℕ) → get_or (to_be_bytes w64 n) i 0 < 256
-bytes_small n zero = omega arith
-bytes_small n (suc zero) = omega arith
-bytes_small n (suc (suc zero)) = omega arith
-bytes_small n (suc (suc (suc zero))) = omega arith
-bytes_small n (suc (suc (suc (suc zero)))) = omega arith
-bytes_small n (suc (suc (suc (suc (suc zero))))) = omega arith
-bytes_small n (suc (suc (suc (suc (suc (suc zero)))))) = omega arith
-bytes_small n (suc (suc (suc (suc (suc (suc (suc zero))))))) = omega arith
-bytes_small n (suc (suc (suc (suc (suc (suc (suc (suc i)))))))) = omega arith
+-- the bytes of a head behind its lowest one
+behind : (head p : ℕ) → head / (256 * p) % 256 ≡ head / 256 / p % 256
+behind head p = ap (λ n. n % 256) (sym (div-div-eq-div-mul head 256 p))
 
--- a swapped number has the bytes in the other order
-swapped : (n : ℕ) → to_le_bytes w64 (swap_bytes w64 n) ≡ to_be_bytes w64 n
-swapped n = le_bytes_8 (to_be_bytes w64 n) (swap_bytes w64 n) refl (bytes_small n)
-    (turned (n % 256 * 72057594037927936) (n / 256 % 256 * 281474976710656) (n / 65536 % 256 * 1099511627776) (n / 16777216 % 256 * 4294967296) (n / 4294967296 % 256 * 16777216) (n / 1099511627776 % 256 * 65536) (n / 281474976710656 % 256 * 256) (n / 72057594037927936 % 256))
+lane_is : (head i : ℕ) → i < 7 → lane head (i + 1) ≡ get_or (to_le_bytes w64 (head / 256)) i 0
+unfolding lane
+lane_is head zero l = refl
+lane_is head (suc zero) l = behind head 256
+lane_is head (suc (suc zero)) l = behind head 65536
+lane_is head (suc (suc (suc zero))) l = behind head 16777216
+lane_is head (suc (suc (suc (suc zero)))) l = behind head 4294967296
+lane_is head (suc (suc (suc (suc (suc zero))))) l = behind head 1099511627776
+lane_is head (suc (suc (suc (suc (suc (suc zero)))))) l = behind head 281474976710656
+lane_is head (suc (suc (suc (suc (suc (suc (suc i))))))) l = absurd (omega (arith, l))
 
-pub swapped_bytes : (k m : ℕ) (ys : List ℕ) → m ≡ swap_bytes w64 k → ys ≡ to_le_bytes w64 m → ys ≡ to_be_bytes w64 k
-swapped_bytes k m ys is e = e ∙ (ap (to_le_bytes w64) is ∙ swapped k)
+-- the bytes of a key, the highest first
+byte_is : (key i : ℕ) → i < 8 → get_or (to_be_bytes w64 key) i 0 ≡ digit (8 - i) key
+byte_is key zero l = digit_is 8 key (omega arith)
+byte_is key (suc zero) l = digit_is 7 key (omega arith)
+byte_is key (suc (suc zero)) l = digit_is 6 key (omega arith)
+byte_is key (suc (suc (suc zero))) l = digit_is 5 key (omega arith)
+byte_is key (suc (suc (suc (suc zero)))) l = digit_is 4 key (omega arith)
+byte_is key (suc (suc (suc (suc (suc zero))))) l = digit_is 3 key (omega arith)
+byte_is key (suc (suc (suc (suc (suc (suc zero)))))) l = digit_is 2 key (omega arith)
+byte_is key (suc (suc (suc (suc (suc (suc (suc zero))))))) l = refl
+byte_is key (suc (suc (suc (suc (suc (suc (suc (suc i)))))))) l = absurd (omega (arith, l))
+
+-- a key that has the highest bytes of a head's prefix
+pub begins_by : (head key deep word : ℕ) → key < 2 ^ 64 → deep ≤ 7 → word ≡ swap_bytes w64 (head / 256)
+    → IsTrue (nat_eq (word / 256 / 2 ^ (56 - 8 * deep)) (key / 256 / 2 ^ (56 - 8 * deep))) → (i : ℕ) → i < deep → lane head (i + 1) ≡ digit (8 - i) key
+begins_by head key deep word fits short is alike i l =
+    let bs = to_le_bytes w64 (head / 256) in
+    let ks = to_be_bytes w64 key in
+    let same = (shifts_alike deep key word bs refl (le_small (head / 256)) short fits is).0 alike in
+    lane_is head i (omega (arith, l, short)) ∙ (sym (get_or-take deep bs i 0 (omega (arith, l))) ∙ (ap (λ xs. get_or xs i 0) same ∙ (get_or-take deep ks i 0 (omega (arith, l)) ∙ byte_is key i (omega (arith, l, short)))))
 
 abbrev pub differs : ℕ → ℕ → Bool
 differs a b = not (eqb a b)

@@ -99,3 +99,14 @@ pub opened_last : (o : Option Opened) (v : Seen) (b : Book) (key : ℕ) (s : Pos
     → IfSome o (λ here. KnowsPosition v key s × (s.height ≡ 1) × IsOpen v b here.words.now here.taken s.name key 1)
 opened_last None v b key s known one there = tt
 opened_last (Some here) v b key s known one there = (known, one, there)
+
+-- a leaf, below the root
+pub position_below_root : (v : Seen) (key top name : ℕ) → Names v top key 8 → Names v name key 1 → KnowsPosition v key (position top 8 name 1)
+position_below_root v key top name above n = record {
+  named = n;
+  upper = λ _. above;
+  lower = λ _. omega arith;
+  level = omega arith;
+  low = omega arith;
+  high = omega arith;
+}

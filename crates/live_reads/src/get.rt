@@ -3,14 +3,14 @@ ghost use Rattle.std.specs.Prelude.{◌≡◌, true};
 ghost use Rattle.live_reads.specs.Paths.{KnowsRootWord, Keeps, Found};
 ghost use Rattle.live_reads.specs.Positions.{KnowsLast};
 
-use crate::descend::{End, Position, begin};
+use crate::descend::Position;
 use crate::last_leaf::LastLeaf;
 use crate::mismatch::ends_above;
-use crate::path::{Nodes, Seat, look};
+use crate::path::{Nodes, Seat, look, open, root};
 use crate::prefix_match::{Next, step};
 use live_law::law::Asks;
 
-/// The value of a key. The path begins at the leaf that the caller has come to last, or at the root. `None` where a writer came in
+/// The value of a key. Its leaf is the last one then, as one below the root: the node above isn't kept. `None` where a writer came in
 /// between.
 pub fn get_once<A: Asks>(
     nodes: &Nodes,
@@ -27,26 +27,20 @@ pub fn get_once<A: Asks>(
         × Found A.ask result seat.old.view seat.new.view }
     ensures last { KnowsLast seat.new.view last.new }
 {
-    let End {
-        mut position,
-        mut here,
-        ..
-    } = begin(nodes, *last, key, seat)?;
-    while position.height > 1 {
-        let step = step::<A>(nodes, here, position.name, position.height, key, seat)?;
+    let top = root(nodes, key, seat)?;
+    let mut name = top;
+    let mut height = 8usize;
+    let mut here = open(nodes, name, seat)?;
+    while height > 1 {
+        let step = step::<A>(nodes, here, name, height, key, seat)?;
         match step.next {
             Next::Ends => return Some(None),
-            Next::Goes(name, height) => {
-                position = Position {
-                    above: position.name,
-                    level: position.height,
-                    name,
-                    height,
-                };
+            Next::Goes(below, lower) => {
+                name = below;
+                height = lower;
                 here = step.here;
             }
             Next::Mismatches(mismatch) => {
-                let Position { name, height, .. } = position;
                 if ends_above::<A>(nodes, name, height, mismatch.below, key, seat) {
                     return Some(None);
                 }
@@ -54,6 +48,12 @@ pub fn get_once<A: Asks>(
             }
         }
     }
+    let position = Position {
+        above: top,
+        level: 8,
+        name,
+        height: 1,
+    };
     *last = LastLeaf { key, position };
-    look::<A>(here, position.name, 1, key, seat)
+    look::<A>(here, name, 1, key, seat)
 }

@@ -1,5 +1,5 @@
 //! A node that a key meets on its path, which may have no key that begins like it.
-ghost use Rattle.std.specs.Prelude.{◌≡◌, ◌≢◌, ℕ, ◌-◌, ◌<◌, ◌≤◌, List, Some, None, IfSome, IfNone};
+ghost use Rattle.std.specs.Prelude.{◌≡◌, ◌≢◌, ℕ, ◌+◌, ◌-◌, ◌<◌, ◌≤◌, List, Some, None, IfSome, IfNone, IsTrue};
 ghost use Rattle.std.specs.Int.{bit_at};
 ghost use Rattle.live_layout.specs.Words.{lane};
 ghost use Rattle.live_layout.specs.Head.{IsHead};
@@ -63,13 +63,37 @@ fn other_lanes(head: u64, key: u64) -> u64
 {
     let lanes = u8x8::from_array(head.to_le_bytes());
     lanes
-        .simd_ne(u8x8::from_array((key >> 8).swap_bytes().to_le_bytes()))
+        .simd_ne(u8x8::from_array((key >> 8).to_be_bytes()))
         .to_bitmask()
+}
+
+// Whether a key begins with a prefix of so many bytes, which this head has: one comparison.
+#[inline(always)]
+fn begins_alike(head: u64, deep: usize, key: u64) -> bool
+    requires { deep ≤ 7 }
+    ensures { IsTrue result → (i : ℕ) → i < deep → lane head (i + 1) ≡ digit (8 - i) key }
+{
+    // by two shifts, as none can be by all 64 bits
+    let rest = 56 - 8 * deep as u32;
+    ((head >> 8).swap_bytes() >> 8) >> rest == (key >> 8) >> rest
 }
 
 /// What a key sees of a node with this head.
 #[inline(always)]
 pub fn compare(head: u64, key: u64) -> PrefixMatch
+    ensures { (form : ℕ) (prefix : List ℕ) → IsHead head form prefix → Sees prefix key result }
+{
+    let deep = prefix_len(head);
+    if begins_alike(head, deep, key) {
+        PrefixMatch::Covers(8 - deep)
+    } else {
+        compare_lanes(head, key)
+    }
+}
+
+// What a key sees of a node with this head, byte by byte.
+#[inline(never)]
+fn compare_lanes(head: u64, key: u64) -> PrefixMatch
     ensures { (form : ℕ) (prefix : List ℕ) → IsHead head form prefix → Sees prefix key result }
 {
     let deep = prefix_len(head);
