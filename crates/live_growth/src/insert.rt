@@ -74,7 +74,7 @@ fn replace(nodes: &Nodes, position: Position, key: u64, room: &mut Room, seat: &
 }
 
 /// Puts a larger node in the place of a full one, which may be used again. The root has the largest form, and stays. Whether
-/// a node is lacking for that.
+/// a node is lacking for that. The next path begins at the root, since the node above may be another one by now.
 pub fn enlarge(
     nodes: &Nodes,
     position: Position,
@@ -96,6 +96,7 @@ pub fn enlarge(
     if room.lacks(room.spare_above(form), next_of(form)) {
         return true;
     }
+    room.last = LastLeaf::none();
     if replace(nodes, position, key, room, seat) {
         let _ = room.spare.keep(position.name);
     }

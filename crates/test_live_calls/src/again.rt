@@ -2,7 +2,7 @@
 
 ghost use Rattle.std.specs.Prelude.{◌≡◌};
 
-use crate::calls::{all_hold, get};
+use crate::calls::{all_hold, get, insert};
 use live_growth::map::{Congee, Guard};
 use std::alloc::Global;
 use std::process::Abort;
@@ -132,5 +132,36 @@ fn read_it_again(
 fn a_node_that_is_used_again_is_read_as_what_it_is_now(rt: HostRuntime) -> Result<(), Fail> {
     let map = Congee::new(rt.alloc())?;
     read_it_again(&rt, rt.alloc(), &map, &mut map.pin(), &mut map.pin());
+    Ok(())
+}
+
+// A guard's last leaf is below a node that another guard has replaced since, by a larger one. Then the leaf is full.
+fn grow_below_another(
+    rt: &impl Abort,
+    alloc: Global,
+    map: &Congee,
+    first: &mut Guard,
+    other: &mut Guard,
+)
+    requires first { first.old.book ≡ map.now }
+    requires other { other.old.book ≡ map.now }
+{
+    let steps = [
+        insert(map, alloc, other, 1 << 40, 1) == Ok(None),
+        insert(map, alloc, other, 256, 1) == Ok(None),
+        all_new(map, alloc, first, 0, 4),
+        insert(map, alloc, other, 512, 1) == Ok(None),
+        insert(map, alloc, other, 768, 1) == Ok(None),
+        insert(map, alloc, other, 1024, 1) == Ok(None),
+        all_new(map, alloc, first, 4, 1),
+        all_found(map, other, 0, 5),
+    ];
+    all_hold(rt, &steps);
+}
+
+#[test]
+fn a_leaf_grows_below_a_node_that_another_guard_has_replaced(rt: HostRuntime) -> Result<(), Fail> {
+    let map = Congee::new(rt.alloc())?;
+    grow_below_another(&rt, rt.alloc(), &map, &mut map.pin(), &mut map.pin());
     Ok(())
 }

@@ -1,5 +1,8 @@
-use Rattle.live_growth.proofs.Ready.{ready_spare, sights_grown}
+use Rattle.live_growth.proofs.Ready.{ready_spare, ready_last, sights_grown}
 use Rattle.live_growth.proofs.insert.enlarge.Goals as goal
+
+pub replace-requires-clause-ready : goal.replace-requires-clause-ready
+replace-requires-clause-ready c = ready_last c.args.seat.now.view c.args.room.now c.none-room.result c.requires.ready (c.none-room.ensures c.args.seat.now.view)
 
 pub returns-then-replace : goal.returns-then-replace
 returns-then-replace c =
