@@ -42,7 +42,7 @@ fn pages(map: &Congee, guard: &mut Guard, low: u64, high: u64) -> [Result<usize,
     [
         range_inclusive(map, guard, low, high, &mut page),
         range_descending(map, guard, low, high, &mut page),
-        range(map, guard, low, high + 1, &mut page),
+        range(map, guard, low, high.saturating_add(1), &mut page),
     ]
 }
 
