@@ -199,12 +199,17 @@ fn words_are_read_back(rt: HostRuntime) -> Result<(), Fail> {
     Ok(())
 }
 
+// Takes out all pairs, by a guard of its own: how many.
+fn all_taken<R: Wait>(rt: &R, map: &Map) -> u128 {
+    let mut guard = map.pin();
+    taken(rt, map, &mut guard, 0, u64::MAX).0
+}
+
 // Takes out pairs while there are fewer than so many, each once: how many.
 fn taken_beside<R: Wait>(rt: &R, map: &Map, many: u128) -> u128 {
-    let mut guard = map.pin();
     let mut count = 0u128;
     for _ in 0..1_000_000u32 {
-        count = count.wrapping_add(taken(rt, map, &mut guard, 0, u64::MAX).0);
+        count = count.wrapping_add(all_taken(rt, map));
         if count >= many {
             return count;
         }
