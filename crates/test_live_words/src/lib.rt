@@ -1,17 +1,13 @@
-//! Clients of words that threads share, each written as its users write them, and tests of them by several threads.
+//! Tests of words that threads share, by hand values.
 //!
-//! - `book`, of `word_book`: a directory of segments that grows while others read, and a number that one seat at a time knows
-//! - `nodes`, of `live_nodes`: a root that names a leaf, and leaves of two numbers that are equal. Readers take no lock, and
-//!   never see a torn pair
-//! - `rows`, of `live_nodes::rows` and `live_layout`: leaves in words, each payload of which ends in the byte that it is under.
-//!   A leaf that is full grows beside its readers
+//! - `lanes`: the bytes in a word, and heads of nodes
+//! - `segments`: how many words a segment has, and which of them a limit is for
+//! - `sizes`: what a word, a seat and the rights to make words take
 #![tactic(auto)]
 
 #[cfg(test)]
-mod book;
+mod lanes;
 #[cfg(test)]
-mod nodes;
+mod segments;
 #[cfg(test)]
-mod rows;
-#[cfg(test)]
-mod steps;
+mod sizes;

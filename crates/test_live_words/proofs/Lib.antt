@@ -1,6 +1,0 @@
-mod DirectorySteps
-mod NumberSteps
-mod PairLaws
-mod PairViews
-mod LeafLaws
-mod LeafViews

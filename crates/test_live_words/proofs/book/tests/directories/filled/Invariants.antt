@@ -1,5 +1,0 @@
-use Rattle.std.proofs.Common.{◌≡◌}
-use Rattle.test_live_words.proofs.book.tests.directories.filled.Given as goal
-
-abbrev pub invariant-loop : goal.invariant-loop
-invariant-loop l = l.seat.book ≡ l.directory.root.book

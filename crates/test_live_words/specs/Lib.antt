@@ -1,4 +1,0 @@
-pub mod Directory
-pub mod Number
-pub mod Pairs
-pub mod Leaves
