@@ -1,13 +1,9 @@
-//! Tests of words that threads share, by hand values.
-//!
-//! - `lanes`: the bytes in a word, and heads of nodes
-//! - `segments`: how many words a segment has, and which of them a limit is for
-//! - `sizes`: what a word, a seat and the rights to make words take
+//! Tests of words that threads share, and of owners that a map of such words names by tickets.
 #![tactic(auto)]
 
 #[cfg(test)]
-mod lanes;
+mod maps;
 #[cfg(test)]
-mod segments;
+mod tickets;
 #[cfg(test)]
-mod sizes;
+mod words;

@@ -1,0 +1,6 @@
+use Rattle.std.proofs.Common.{◌≡◌}
+use Rattle.test_live_words.proofs.tickets.rows.drained.Given as goal
+
+-- the handle is one of this table
+abbrev pub invariant-loop : goal.invariant-loop
+invariant-loop l = l.handle.book ≡ l.owners

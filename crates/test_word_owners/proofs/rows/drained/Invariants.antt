@@ -1,6 +1,0 @@
-use Rattle.std.proofs.Common.{◌≡◌}
-use Rattle.test_word_owners.proofs.rows.drained.Given as goal
-
--- the handle is one of this table
-abbrev pub invariant-loop : goal.invariant-loop
-invariant-loop l = l.handle.book ≡ l.owners

@@ -1,6 +1,0 @@
-use Rattle.std.proofs.Common.{◌≡◌}
-use Rattle.test_word_owners.proofs.rows.inserted.Given as goal
-
--- the handle is one of this table
-abbrev pub invariant-loop-i : goal.invariant-loop-i
-invariant-loop-i l = l.handle.book ≡ l.owners
