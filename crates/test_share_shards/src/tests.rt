@@ -1,4 +1,3 @@
-mod cells;
 mod ends;
 mod points;
 mod refused;

@@ -1,4 +1,4 @@
-//! Two threads at one map: nothing is lost, a busy call is told apart, and a call that waits goes on.
+//! Two threads at one map: nothing is lost, counts rise, a busy call is told apart, and a call that waits goes on.
 
 ghost use Rattle.std.specs.Prelude.{◌≡◌};
 
@@ -40,6 +40,53 @@ fn each_number_is_found_once(rt: HostRuntime) -> Result<(), Fail> {
         let map: Map = Congee::new(rt.alloc(), shards, u64::MAX)?;
         assert!(rt; by_two(&rt, &map) == Some((all * (all - 1) / 2, all)));
     }
+    Ok(())
+}
+
+// How many keys one thread inserts, far from one another.
+const KEYS: u64 = 20_000;
+
+// Inserts all keys. How many were new.
+fn inserts<R: Wait>(rt: &R, map: &Map) -> Option<u64> {
+    let mut guard = map.pin().ok()?;
+    let mut new = 0u64;
+    for number in 0..KEYS {
+        let key = number.wrapping_mul(0x9e3779b97f4a7c15);
+        if map.insert(rt, &mut guard, key, number).ok()?.is_none() {
+            new = new.wrapping_add(1);
+        }
+    }
+    Some(new)
+}
+
+// Counts until all keys are there. How often a count was less than the one before.
+fn falls<R: Wait>(rt: &R, map: &Map) -> Option<u64> {
+    let mut guard = map.pin().ok()?;
+    let mut before = 0u128;
+    let mut fallen = 0u64;
+    for _ in 0..10_000_000u32 {
+        let count = map.value_count(rt, &mut guard);
+        if count < before {
+            fallen = fallen.wrapping_add(1);
+        }
+        if count == KEYS as u128 {
+            return Some(fallen);
+        }
+        before = count;
+    }
+    None
+}
+
+// One thread inserts, and another counts. How many keys were new, and how many counts fell.
+fn counted_beside<R: Threads + Wait + Sync>(rt: &R, map: &Map) -> Option<(u64, u64)> {
+    let (new, fallen) = join(rt, || inserts(rt, map), || falls(rt, map));
+    Some((new?, fallen?))
+}
+
+#[test]
+fn counts_beside_insertions_never_fall(rt: HostRuntime) -> Result<(), Fail> {
+    let map: Map = Congee::new(rt.alloc(), Shards::SixtyFour, u64::MAX)?;
+    assert!(rt; counted_beside(&rt, &map) == Some((KEYS, 0)));
     Ok(())
 }
 
