@@ -2,5 +2,6 @@
 //! than it would, closures and gates that don't return, and each call once with its memory refused.
 #![tactic(auto)]
 
+pub mod delay;
 #[cfg(test)]
 mod tests;

@@ -2,6 +2,7 @@ mod budgets;
 mod callers;
 mod changes;
 mod faults;
+mod faulty;
 mod gates;
 mod lent;
 mod meetings;

@@ -2,6 +2,7 @@
 
 ghost use Rattle.std.specs.Prelude.{◌≡◌, ◌+◌, ◌^◌};
 
+use crate::tests::faulty::{Fault, Faulty, Plan};
 use node_table::allocator::DefaultAllocator;
 use share_backend::snapshots::{Made, Pages};
 use share_faces::typed_congee::{Congee, Guard};
@@ -14,7 +15,6 @@ use std::marker::Brand;
 use std::sync::Wait;
 use std::sync::ledger::{Blank, Ledger};
 use std::test::Fail;
-use test_share_faulty::faulty::{Fault, Faulty, Plan};
 
 type Machine = Faulty<Events<u64, DefaultAllocator>>;
 

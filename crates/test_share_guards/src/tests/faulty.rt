@@ -11,8 +11,9 @@ ghost use Rattle.share_backend.specs.Changing.{Counts, reply_in};
 ghost use Rattle.share_backend.specs.Stages.{Changes, IsOf, Turns};
 ghost use Rattle.share_backend.specs.declared.lent.CallStage.{CallStage};
 ghost use Rattle.share_backend.specs.declared.lent.CallStage.TheVariants.{Ready};
-ghost use Rattle.test_share_faulty.specs.Delays.{IsDelayOf, placed, stage_by};
+ghost use Rattle.test_share_guards.specs.Delays.{IsDelayOf, placed, stage_by};
 
+use crate::delay::{Delay, Delayed};
 use node_stats::NodeStats;
 use share_backend::event::EventResult;
 use share_backend::lent::Lent;
@@ -45,23 +46,6 @@ pub enum Fault {
 pub struct Plan {
     pub fault: Fault,
     pub at: u64,
-}
-
-/// How far a call is that is kept from the map below.
-#[derive(Clone, Copy)]
-pub enum Delay {
-    Begun,
-    Asked(Option<u64>),
-    Settled,
-    Denied,
-}
-
-/// A call that the map below doesn't know yet, or has ended.
-#[derive(Drop)]
-pub struct Delayed {
-    pub id: u64,
-    pub op: Op<u64>,
-    pub stage: Delay,
 }
 
 /// The value with which a closure is asked wrongly.
@@ -250,7 +234,7 @@ impl<M: Lent<u64, u64>> Faulty<M> {
 }
 
 impl<M: Lent<u64, u64>> Lent<u64, u64> for Faulty<M> {
-    ghost use Rattle.test_share_faulty.specs.Delays.{placed};
+    ghost use Rattle.test_share_guards.specs.Delays.{placed};
 
     ghost meaning = { M.meaning };
 

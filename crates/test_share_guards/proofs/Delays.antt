@@ -6,8 +6,8 @@ use Rattle.spec_olc.specs.declared.types.Outcome.{Outcome}
 use Rattle.share_backend.specs.Stages.{IsOf, Turns}
 use Rattle.share_backend.specs.declared.lent.CallStage.{CallStage}
 use Rattle.share_backend.specs.declared.lent.CallStage.TheVariants as call
-use Rattle.test_share_faulty.specs.Delays.{if_ready, placed, stage_by}
-use Rattle.test_share_faulty.specs.declared.faulty.Delayed.{Delayed}
+use Rattle.test_share_guards.specs.Delays.{if_ready, placed, stage_by}
+use Rattle.test_share_guards.specs.declared.delay.Delayed.{Delayed}
 
 some_is : {X : Type 0} (x y : X) → Some x ≡ Some y → x ≡ y
 some_is x y e = cc

@@ -6,9 +6,9 @@ use Rattle.spec_olc.specs.declared.types.Asking.TheVariants.{Fresh, Wants}
 use Rattle.spec_olc.specs.declared.types.Op.{Op}
 use Rattle.share_backend.specs.declared.lent.CallStage.{CallStage}
 use Rattle.share_backend.specs.declared.lent.CallStage.TheVariants as call
-use Rattle.test_share_faulty.specs.declared.faulty.Delay.{Delay}
-use Rattle.test_share_faulty.specs.declared.faulty.Delay.TheVariants.{Begun, Asked, Settled, Denied}
-use Rattle.test_share_faulty.specs.declared.faulty.Delayed.{Delayed}
+use Rattle.test_share_guards.specs.declared.delay.Delay.{Delay}
+use Rattle.test_share_guards.specs.declared.delay.Delay.TheVariants.{Begun, Asked, Settled, Denied}
+use Rattle.test_share_guards.specs.declared.delay.Delayed.{Delayed}
 
 -- the map below has to know the number as ready
 abbrev pub if_ready : {M : Type 0} → Option (CallStage M) → CallStage M → Option (CallStage M)

@@ -1,8 +1,8 @@
 use Rattle.std.proofs.Common.{sym, ◌∙◌}
 use Rattle.spec_olc.specs.Calls.{outline_of}
 use Rattle.spec_olc.specs.Meaning.{in_some}
-use Rattle.test_share_faulty.proofs.Delays.{turned}
-use Rattle.test_share_faulty.proofs.faulty.FaultyLentU64U64.step.Goals as goal
+use Rattle.test_share_guards.proofs.Delays.{turned}
+use Rattle.test_share_guards.proofs.tests.faulty.FaultyLentU64U64.step.Goals as goal
 
 pub returns-clause-turns : goal.returns-clause-turns
 returns-clause-turns g c = λ p known is_of.
