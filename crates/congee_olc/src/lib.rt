@@ -2,11 +2,11 @@
 //!
 //! The items that users need, under the names of the Rust crate's module. They are defined in `olc_words`,
 //! `spec_olc`, `olc_machine` and `olc_replay`.
+//!
+//! Tested in `test_olc`.
 #![tactic(auto)]
 
 /// The machine, whole schedules on it, and the types that both take and return.
 pub mod olc;
-#[cfg(test)]
-mod tests;
 
 pub use olc_words::{epoch, lock};

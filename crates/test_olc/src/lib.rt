@@ -1,12 +1,6 @@
-//! Tests of the protocol's machine: the ends of its counters, and lone calls beside the owned map.
-//!
-//! - `ends`, `retirements`: a node whose version is at its last value, and pins at the end of their counter
-//! - `tree`: calls alone do on the machine what they do on the owned tree
+//! Tests of the protocol: lock words and pins, the machine call by call, and what a schedule can't say: budgets, refusals, owners, the
+//! ends of counters, and calls beside the owned map.
 #![tactic(auto)]
 
 #[cfg(test)]
-mod ends;
-#[cfg(test)]
-mod retirements;
-#[cfg(test)]
-mod tree;
+mod tests;

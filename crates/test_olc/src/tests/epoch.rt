@@ -3,7 +3,7 @@
 ghost use Rattle.std.specs.Prelude.{◌≡◌, None};
 ghost use Rattle.olc_words.specs.Epoch.{life_of};
 
-use crate::epoch::Pins;
+use congee_olc::epoch::Pins;
 use spec_map::error::OOMError;
 use std::alloc::Global;
 use std::test::Fail;

@@ -9,7 +9,7 @@ use Rattle.olc_state.proofs.Slots.{stored_as, table_has}
 use Rattle.olc_machine.specs.inner.Inside.{meant_in}
 use Rattle.olc_machine.proofs.Stocked.{meant_sizes}
 use Rattle.test_olc.proofs.Aged.{aged, no_entry}
-use Rattle.test_olc.proofs.ends.age.Goals as goal
+use Rattle.test_olc.proofs.tests.ends.age.Goals as goal
 
 pub returns : goal.returns
 returns g c =

@@ -1,6 +1,6 @@
 //! Worked rows of lock words.
 
-use crate::lock::Word64;
+use congee_olc::lock::Word64;
 
 // The words of a free node that is locked, then unlocked, and one that is locked, then marked obsolete.
 fn words_after(free: u64) -> Option<[u64; 3]> {

@@ -1,6 +1,6 @@
 use Rattle.olc_state.specs.inner.Facts.{IsSoundWorld}
 use Rattle.olc_machine.specs.inner.Inside.{meant_in}
-use Rattle.test_olc.proofs.ends.course.Given as goal
+use Rattle.test_olc.proofs.tests.ends.course.Given as goal
 
 -- the inside is sound
 abbrev pub invariant-loop : goal.invariant-loop

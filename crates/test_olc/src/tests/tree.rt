@@ -3,7 +3,7 @@
 
 mod both;
 
-use crate::tree::both::Both;
+use crate::tests::tree::both::Both;
 use spec_map::error::OOMError;
 use std::alloc::Global;
 use std::sync::atomic::AtomicU64;

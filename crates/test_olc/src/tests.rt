@@ -1,6 +1,5 @@
-//! Lock words and pins, the machine call by call, and what a schedule can't say: budgets, refusals and owners.
-
 mod cleanup_owners;
+mod ends;
 mod epoch;
 mod events;
 mod history;
@@ -9,4 +8,6 @@ mod machine;
 mod memory;
 mod range_owners;
 mod refusals;
+mod retirements;
 mod schedules;
+mod tree;
