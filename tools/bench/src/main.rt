@@ -1,20 +1,18 @@
-//! The maps that the C library lacks: `congee::locked`, `congee::shared`, and the protocol's machine. One line of times for each
-//! form and round. `tools/c/form_times.c` times other maps in the same columns, and `tools/dev/bench-threads` makes a table of both.
+//! The maps that the C library lacks: `congee::locked` and `congee::shared`. One line of times for each form and round.
+//! `tools/c/form_times.c` times other maps in the same columns, and `tools/dev/bench-threads` makes a table of both. It proves this
+//! crate, too, which is no part of `crates.txt`.
 //!
 //! A line is: the kind of the keys, the form, and then, in hundredths of a nanosecond a call of one thread: filling the first seven
 //! tenths by one thread; a tenth of new keys each by one, two and four threads; `get` by one, two and four; overwriting and
-//! removing likewise. The form `alone` is the machine without a lock, by one thread, and `events` an event of its `get` and, as a
-//! removal, a `reclaim_next` that finds nothing. Without an argument nothing is measured (the gate runs the program so).
+//! removing likewise. An argument names a form, or is `all`.
 #![tactic(auto)]
 
 ghost use Rattle.std.specs.Prelude.{◌≡◌, ◌+◌, ◌^◌};
 
-mod alone;
 mod keys;
 mod shares;
 mod work;
 
-use crate::alone::alone;
 use crate::keys::{dense, random, shuffled};
 use crate::shares::shared;
 use crate::work::Times;
@@ -75,9 +73,6 @@ fn rounds<R: Threads + Wait + Clock + Sync, W: Write>(
                 few,
             )?;
             print_times(out, kind, "shared", t)?;
-            let t = alone(rt, alloc, fill.as_slice(), few)?;
-            print_times(out, kind, "alone", t.calls)?;
-            print_times(out, kind, "events", t.event)?;
         } else {
             let t = shared::<Brand, Tree, _>(
                 rt,

@@ -17,15 +17,6 @@ pub struct Times {
     pub remove: (u64, u64, u64),
 }
 
-/// No time at all.
-pub const NONE: Times = Times {
-    fill: 0,
-    new: (0, 0, 0),
-    get: (0, 0, 0),
-    over: (0, 0, 0),
-    remove: (0, 0, 0),
-};
-
 /// What one thread does with its keys.
 pub trait Work {
     fn part<R: Wait>(&self, rt: &R, keys: &[u64]) -> u64;
