@@ -11,4 +11,3 @@ pub mod Tries
 pub mod Ordered
 pub mod Unlinks
 pub mod Twos
-pub mod Threes

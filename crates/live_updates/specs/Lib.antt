@@ -5,4 +5,3 @@ pub mod ClosureEntries
 pub mod inner
 pub mod Unlinks
 pub mod Two
-pub mod Three
