@@ -1,4 +1,5 @@
 pub mod Entries
+pub mod Takings
 pub mod Refusals
 pub mod Closures
 pub mod ClosureEntries
