@@ -12,3 +12,5 @@ pub mod Pairs
 pub mod Again
 pub mod Sources
 pub mod Triples
+pub mod Twos
+pub mod Threes

@@ -84,15 +84,6 @@ number_at (suc n) (h ∷ hs) = number_at n hs
 abbrev pub IsBeside : List Hold → Type 0
 IsBeside hs = number_at 1 hs ≢ number_at 0 hs
 
--- It holds this node and, locked before it, that one.
-pub record HoldsLast (v : SeatView View) (b : Book) (words : List Name) (free : ℕ) (a p : Spot) (c e : Content) (h : Hold) : Type 0 where
-  pub own : v.client.own ≡ locked a c ∷ locked p e ∷ []
-  pub holds : v.holds ≡ hold a.number (free + 2) c ∷ h ∷ []
-  pub apart : p.number ≢ a.number
-  pub beside : h.number ≢ a.number
-  pub placed : IsIn (place_at a) v.places
-  pub are : AreOf (place_at a) b words
-
 -- It holds this node alone, whose words are these, and has written this.
 pub record HoldsOne (v : SeatView View) (b : Book) (words : List Name) (free : ℕ) (a : Spot) (c d : Content) : Type 0 where
   pub own : v.client.own ≡ locked a c ∷ []

@@ -1,15 +1,13 @@
 //! Nodes are locked, and unlocked.
-ghost use Rattle.std.specs.Prelude.{◌≡◌, ◌+◌, ◌%◌, ◌<◌, ◌^◌, drop, IfSome, IfNone};
+ghost use Rattle.std.specs.Prelude.{◌≡◌, ◌+◌, ◌%◌, ◌<◌, ◌^◌, IfSome, IfNone};
 ghost use Rattle.word_book.specs.Book.{writes, none_joined};
 ghost use Rattle.live_nodes.specs.Nodes.{Content};
-ghost use Rattle.live_nodes.specs.Seats.{Hold};
 ghost use Rattle.live_nodes.specs.Plays.{Frees};
 ghost use Rattle.live_nodes.specs.Calls.{MayFree};
 ghost use Rattle.live_law.specs.Levels.{Spot};
-ghost use Rattle.live_law.specs.Views.{rest_of};
 ghost use Rattle.live_law.specs.Tree.{IsMap, LinksAgain};
 ghost use Rattle.live_reads.specs.Paths.{Names, Sights, AreNamed, IsOpen};
-ghost use Rattle.live_growth.specs.Holds.{Alike, HasLocked, HasLockedOpen, HasReclaimed, HoldsLast, HoldsOne, HasRest};
+ghost use Rattle.live_growth.specs.Holds.{Alike, HasLocked, HasLockedOpen, HasReclaimed, HoldsOne, HasRest};
 
 use live_law::law::{Again, Asks, Fills, Locked, MapLaw, MapView, Reclaimed, Same};
 use live_layout::words::ReadWords;
@@ -121,18 +119,4 @@ pub fn unlock_again<A: Asks, C: Fills>(word: &Cell, free: u64, seat: &mut Seat)
         seat.old.view (free + 4) none_joined seat.new.view }
 {
     node::unlock::<MapView, MapLaw, Again<A, C>>(word, free, seat);
-}
-
-/// Unlocks the node that the seat locked last, which is as it was. Another one stays locked.
-pub fn unlock_last(words: &[Cell], free: u64, seat: &mut Seat)
-    requires word { (free % 4 ≡ 0) × (free < 2 ^ 62) }
-    requires holds { (a p : Spot) × (c e : Content) × (h : Hold)
-        × HoldsLast seat.old.view seat.old.book words.now free a p c e h }
-    ensures told { (seat.new.book ≡ seat.old.book) × (seat.new.id ≡ seat.old.id)
-        × Alike seat.old.view seat.new.view
-        × (seat.new.view.client.own ≡ rest_of seat.old.view.client.own)
-        × (seat.new.view.holds ≡ drop 1 seat.old.view.holds)
-        × (seat.new.view.client.seen ≡ seat.old.view.client.seen) }
-{
-    node::unlock::<MapView, MapLaw, Same>(&words[0], free, seat);
 }

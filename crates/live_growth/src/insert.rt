@@ -56,21 +56,12 @@ fn replace(nodes: &Nodes, position: Position, key: u64, room: &mut Room, seat: &
     ensures told { (seat.new.book ≡ seat.old.book) × (seat.new.id ≡ seat.old.id)
         × IsReady seat.new.view room.new × HasGrown seat.old.view seat.new.view }
 {
-    let Position {
-        above,
-        level,
-        name,
-        height,
-    } = position;
-    let form = form_below(name);
+    let form = form_below(position.name);
     let spare = spare_or_made(nodes, room.spare_above(form), next_of(form), room, seat);
     if spare == 0 {
         return false;
     }
-    let free_nodes = &mut room.spare;
-    grow_node::<Brand>(
-        nodes, above, level, name, height, key, spare, free_nodes, seat,
-    )
+    grow_node::<Brand>(nodes, position, key, spare, &mut room.spare, seat)
 }
 
 /// Puts a larger node in the place of a full one, which may be used again. The root has the largest form, and stays. Whether

@@ -1,4 +1,4 @@
--- Histories that go on by one entry.
+-- Histories that go on.
 use Rattle.std.proofs.Common.{◌≡◌, ◌≢◌, ℕ, Bool, cond, nat_eq, List, [], ◌∷◌, ◌++◌, Option, refl, sym, ap, ◌∙◌, subst, eq-eqb, ne_eqb, append-nil, append_assoc}
 use Rattle.spec_map.specs.Map.{Pairs, lookup, put}
 use Rattle.spec_map.specs.Call.{old_value}
@@ -7,6 +7,7 @@ use Rattle.spec_map.specs.Refusal.{never}
 use Rattle.share_rule.specs.History.{Entry, entries_of, operations_of, IsHistory}
 use Rattle.share_rule.specs.inner.Rule.{HasSeen}
 use Rattle.share_rule.proofs.Keeps.{entries-append}
+use Rattle.live_nodes.specs.Seats.{Each}
 use Rattle.live_law.specs.Views.{Ask, got, inserted}
 use Rattle.live_law.specs.Begun.{began}
 
@@ -30,18 +31,20 @@ began_legal history m caller run = legal-append [] m m history (began caller ∷
 pub its_own : (e : Entry ℕ) → entries_of e.caller (e ∷ []) ≡ e ∷ []
 its_own e = ap (λ (b : Bool). cond b (e ∷ []) []) (eq-eqb e.caller e.caller refl)
 
-no_other : (c : ℕ) (e : Entry ℕ) → c ≢ e.caller → entries_of c (e ∷ []) ≡ []
-no_other c e ne = ap (λ (b : Bool). cond b (e ∷ []) []) (ne_eqb c e.caller ne)
+-- of entries of one caller, what another one has
+no_others : (c id : ℕ) (es : History) → c ≢ id → Each (λ (e : Entry ℕ). e.caller ≡ id) es → entries_of c es ≡ []
+no_others c id [] ne by = refl
+no_others c id (e ∷ es) ne by = ap (λ (b : Bool). cond b (e ∷ entries_of c es) (entries_of c es)) (ne_eqb c e.caller (λ same. ne (same ∙ by.0))) ∙ no_others c id es ne by.1
 
-pub others_alike : (c : ℕ) (history : History) (e : Entry ℕ) → c ≢ e.caller → entries_of c (history ++ e ∷ []) ≡ entries_of c history
-others_alike c history e ne = entries-append c history (e ∷ []) ∙ (ap (λ (l : History). entries_of c history ++ l) (no_other c e ne) ∙ append-nil (entries_of c history))
+pub others_alike : (c id : ℕ) (history es : History) → c ≢ id → Each (λ (e : Entry ℕ). e.caller ≡ id) es → entries_of c (history ++ es) ≡ entries_of c history
+others_alike c id history es ne by = entries-append c history es ∙ (ap (λ (l : History). entries_of c history ++ l) (no_others c id es ne by) ∙ append-nil (entries_of c history))
 
 -- who has seen the whole, and who saw less
 pub sees_all : (c : ℕ) (history : History) → HasSeen history c history
 sees_all c history = record { begins = ([], sym (append-nil history)); own = refl }
 
-pub sees_less : (c : ℕ) (history s : History) (e : Entry ℕ) → c ≢ e.caller → HasSeen history c s → HasSeen (history ++ e ∷ []) c s
-sees_less c history s e ne h = record {
-  begins = (h.begins.0 ++ e ∷ [], ap (λ (l : History). l ++ e ∷ []) h.begins.1 ∙ append_assoc s h.begins.0 (e ∷ []));
-  own = others_alike c history e ne ∙ h.own;
+pub sees_less : (c id : ℕ) (history s es : History) → c ≢ id → Each (λ (e : Entry ℕ). e.caller ≡ id) es → HasSeen history c s → HasSeen (history ++ es) c s
+sees_less c id history s es ne by h = record {
+  begins = (h.begins.0 ++ es, ap (λ (l : History). l ++ es) h.begins.1 ∙ append_assoc s h.begins.0 es);
+  own = others_alike c id history es ne by ∙ h.own;
 }

@@ -59,9 +59,9 @@ module _ (ns : List Node) (vs : List View) (id : ℕ) (p : IsMap ns vs) (v : Vie
         tree = p.tree;
         each_view = λ j u at_j. ⊎_elim
             (λ t. subst (λ (x : ℕ × View). Knows p.plan ns p.contents longer x.0 x.1) (λ i. (sym t.0 i, t.1 i)) record { seen = sees_all id longer; met = are_met; own = k.own; watched = tt })
-            (λ t. let o = p.each_view j u t.1 in record { seen = sees_less j p.history u.seen e (λ same. t.0 (same ∙ by)) o.seen; met = o.met; own = o.own; watched = o.watched })
+            (λ t. let o = p.each_view j u t.1 in record { seen = sees_less j id p.history u.seen (e ∷ []) t.0 (by, tt) o.seen; met = o.met; own = o.own; watched = o.watched })
             (at_set vs id j (view_of longer met v.own) u at_j);
-        unborn = λ c l. let m : length vs ≤ c = omega (arith, l, length-set vs id (view_of longer met v.own)) in others_alike c p.history e (λ same. absurd (let low = below vs id v seat in omega (arith, low, same, by, m))) ∙ p.unborn c m;
+        unborn = λ c l. let m : length vs ≤ c = omega (arith, l, length-set vs id (view_of longer met v.own)) in others_alike c id p.history (e ∷ []) (λ same. absurd (let low = below vs id v seat in omega (arith, low, same, m))) (by, tt) ∙ p.unborn c m;
       }
 
 -- a node that is current is met

@@ -65,11 +65,11 @@ module _ (id : ℕ) (v : View) (k word : ℕ) (d : Content) (ns : List Node) (vs
           watched = tt;
         }
 
-    -- It goes on by one entry of this seat, after which the pairs are others.
-    pub goes_by : (e : Entry ℕ) (pairs : Pairs ℕ) → e.caller ≡ id → IsHistory nat_eq (p.history ++ e ∷ []) pairs → IsTree p.plan (set ns k freed) cs' pairs
-        → IsMap (set ns k freed) (set vs id (view_of (p.history ++ e ∷ []) v.met os))
-    goes_by e pairs by legal tree =
-        let longer : List (Entry ℕ) = p.history ++ e ∷ [] in
+    -- It goes on by entries of this seat, after which the pairs are others.
+    pub goes_by : (es : List (Entry ℕ)) (pairs : Pairs ℕ) → Each (λ (e : Entry ℕ). e.caller ≡ id) es → IsHistory nat_eq (p.history ++ es) pairs → IsTree p.plan (set ns k freed) cs' pairs
+        → IsMap (set ns k freed) (set vs id (view_of (p.history ++ es) v.met os))
+    goes_by es pairs by legal tree =
+        let longer : List (Entry ℕ) = p.history ++ es in
         let kn = p.each_view id v seat in
         with_map ns vs id p (set ns k freed) (view_of longer v.met os) p.plan cs' longer pairs legal (nodes_stay p.plan ns k freed low refl long p.nodes)
         (settled_stays p.plan ns k freed low refl long p.contents cs' p.settled (λ some_node none. has some_node) else)
@@ -78,8 +78,8 @@ module _ (id : ℕ) (v : View) (k word : ℕ) (d : Content) (ns : List Node) (vs
         (met_stays p.plan ns k freed low refl long if_free)
         (λ j ne. watch_stays p.plan ns k freed low refl long rises j (λ e. not_some j (sym e)))
         others_own
-        (λ j ne s h. sees_less j p.history s e (λ same. ne (same ∙ by)) h)
-        (λ c l. others_alike c p.history e (λ same. absurd (let lo = below vs id v seat in omega (arith, lo, same, by, l))) ∙ p.unborn c l)
+        (λ j ne s h. sees_less j id p.history s es ne by h)
+        (λ c l. others_alike c id p.history es (λ same. absurd (let lo = below vs id v seat in omega (arith, lo, same, l))) by ∙ p.unborn c l)
         record {
           seen = sees_all id longer;
           met = each_map (IsMet p.plan ns) (IsMet p.plan (set ns k freed)) v.met (met_stays p.plan ns k freed low refl long if_free) kn.met;
@@ -208,7 +208,7 @@ leaf_inserts q id by v a c is leaf covers word m even d long changes ns vs p sea
     let kn = p.each_view id v seat in
     let legal = put_legal p.history p.pairs q found p.legal refl in (
       view_of (p.history ++ inserted q found ∷ []) v.met [],
-      goes_by id v k word d ns vs p seat low held rises as_long cs' (λ j ne. put_else p.contents k d j ne) (λ _. sym (put_here p.contents k d)) (λ _ _. at_k) (λ _ _. (refl, (m, even))) [] tt tt (inserted q found) pairs by legal tree,
+      goes_by id v k word d ns vs p seat low held rises as_long cs' (λ j ne. put_else p.contents k d j ne) (λ _. sym (put_here p.contents k d)) (λ _ _. at_k) (λ _ _. (refl, (m, even))) [] tt tt (inserted q found ∷ []) pairs (by, tt) legal tree,
       record {
         found = found;
         its = old.its;

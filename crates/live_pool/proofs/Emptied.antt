@@ -1,8 +1,7 @@
 -- Pops of a range, one after another.
-use Rattle.std.proofs.Common.{◌≡◌, ℕ, zero, suc, ◌+◌, true, [], ◌∷◌, length, Some, refl, sym, ap, subst, add-one, inl, ◌∙◌}
+use Rattle.std.proofs.Common.{◌≡◌, ℕ, [], ◌∷◌, length, refl, sym, subst, inl}
 use Rattle.spec_map.specs.Map.{Pairs}
 use Rattle.live_law.specs.Known.{Known}
-use Rattle.live_pool.specs.Pops.{HasPopped}
 use Rattle.live_pool.specs.Removals.{HaveRemoved, HasEmptied, HaveTaken, HasExtracted}
 
 -- whoever gets them

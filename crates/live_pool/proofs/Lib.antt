@@ -6,3 +6,4 @@ pub mod Within
 pub mod Missed
 pub mod Emptied
 pub mod Judged
+pub mod Parts

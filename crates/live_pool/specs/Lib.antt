@@ -4,3 +4,4 @@ pub mod FreeLists
 pub mod Pops
 pub mod Removals
 pub mod Retains
+pub mod inner

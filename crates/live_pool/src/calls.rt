@@ -2,10 +2,11 @@
 //!
 //! Each is the call of the map. Before it a guard with little room gets nodes. After it one too many goes to the others, and paths
 //! are tidied that a writer was busy at.
-ghost use Rattle.std.specs.Prelude.{◌≡◌, ℕ, IfOk, IfErr, IfSome, OnErr, unwrap_or};
+ghost use Rattle.std.specs.Prelude.{◌≡◌, ℕ, ◌+◌, ◌<◌, ◌≤◌, length, take, IfOk, IfErr, IfSome, OnErr, unwrap_or};
 ghost use Rattle.live_law.specs.Views.{ask, inserted};
 ghost use Rattle.live_law.specs.Known.{MadeCall};
 ghost use Rattle.live_updates.specs.Entries.{removed, swapped};
+ghost use Rattle.live_updates.specs.Takings.{HasTakenOut};
 ghost use Rattle.live_updates.specs.Refusals.{Refused};
 ghost use Rattle.live_updates.specs.Closures.{Reaches, EndsWithCall};
 ghost use Rattle.live_updates.specs.ClosureEntries.{computed_with, inserted_with, sum_with};
@@ -13,8 +14,8 @@ ghost use Rattle.live_updates.specs.ClosureEntries.{computed_with, inserted_with
 use crate::pool::Pool;
 use crate::supply::Supply;
 use live_growth::map::{Busy, Guard, Refusal};
-use live_updates::calls;
 use live_updates::computes::present;
+use live_updates::{calls, takings};
 use std::alloc::Global;
 
 impl Pool {
@@ -74,6 +75,30 @@ impl Pool {
         let done = calls::compare_exchange(&self.map, guard, key, old, new);
         self.settle(guard);
         done
+    }
+
+    /// Removes the pairs with keys from `key` to `last` that are in the key's leaf, at one moment. Writes them into the buffer,
+    /// ascending, as many as fit, and returns how many. 0 where there is none, or a writer came in between: then nothing has
+    /// changed. Needs no memory.
+    pub fn take_from_leaf(
+        &self,
+        guard: &mut Guard,
+        key: u64,
+        last: u64,
+        buffer: &mut [(u64, u64)],
+    ) -> usize
+        requires map { guard.old.book ≡ self.now }
+        requires order { key ≤ last }
+        requires some_room { 0 < length buffer.old }
+        ensures few { result ≤ length buffer.old }
+        ensures none { result ≡ 0 → guard.new ≡ guard.old }
+        ensures taken { 1 ≤ result
+            → HasTakenOut guard.old key (last + 1) (take result buffer.new) guard.new }
+    {
+        self.begin(guard);
+        let count = takings::take_from_leaf(&self.map, guard, key, last, buffer);
+        self.settle(guard);
+        count
     }
 
     /// Gives an absent key a value. The value of a present one.

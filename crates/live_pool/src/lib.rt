@@ -9,7 +9,8 @@
 //!
 //! A pop searches the pair, and then removes it if its value is still the one found. So each pair goes to one caller. Each key
 //! that the search passed was absent at a moment of the call. A key that another thread inserts there meanwhile stays (`pops`). A
-//! `retain` reads pages, asks a closure about each pair, and removes a pair with the value that it was asked about.
+//! removal of a range searches so, too, and removes all pairs of the leaf that it found at one moment (`removals`). A `retain` reads
+//! pages, asks a closure about each pair, and removes a pair with the value that it was asked about.
 //!
 //! Tested in `test_live_calls`, and pops in `test_live_faces`.
 #![tactic(auto)]

@@ -14,7 +14,7 @@ use Rattle.live_updates.specs.inner.Updates.{update_of, IsUpdate}
 abbrev History : Type 0
 History = List (Entry ℕ)
 
-legal-append : (m k n : Pairs ℕ) (xs ys : History) → IsLegal nat_eq never m (operations_of xs) k → IsLegal nat_eq never k (operations_of ys) n → IsLegal nat_eq never m (operations_of (xs ++ ys)) n
+pub legal-append : (m k n : Pairs ℕ) (xs ys : History) → IsLegal nat_eq never m (operations_of xs) k → IsLegal nat_eq never k (operations_of ys) n → IsLegal nat_eq never m (operations_of (xs ++ ys)) n
 legal-append m k n [] ys first next = subst (λ (l : Pairs ℕ). IsLegal nat_eq never l (operations_of ys) n) first next
 legal-append m k n (x ∷ xs) ys first next = (first.0, legal-append (after_operation nat_eq m x.operation) k n xs ys first.1 next)
 
@@ -85,7 +85,7 @@ exchange_lookup x = record {
   legal = λ found e is. (swap_ends x.caller x.key x.old x.new found e (exchange nat_eq found x.old x.new) refl is).1;
 }
 
-succeeds_by : (old : ℕ) (new : Option ℕ) → exchange nat_eq (Some old) old new ≡ Ok new
+pub succeeds_by : (old : ℕ) (new : Option ℕ) → exchange nat_eq (Some old) old new ≡ Ok new
 succeeds_by old new = ap (λ (b : Bool). if b then Ok new else Err (Some old)) (eq-eqb old old refl)
 
 pub exchange_update : (c k old : ℕ) (new : Option ℕ) → IsUpdate (update_of c k (Some old) new (swapped c k old new (Ok new)))

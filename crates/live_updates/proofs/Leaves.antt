@@ -93,7 +93,7 @@ leaf_updates u law id by v a c is leaf covers word m even d long changes ns vs p
     let e : Entry ℕ = u.entry in
     let legal = law.legal p.history p.pairs p.legal found in (
       view_of (p.history ++ e ∷ []) v.met [],
-      goes_by id v k word d ns vs p seat low held rises as_long cs' (λ j ne. put_else p.contents k d j ne) (λ _. sym (put_here p.contents k d)) (λ _ _. at_k) (λ _ _. (refl, (m, even))) [] tt tt e pairs (law.by ∙ by) legal tree,
+      goes_by id v k word d ns vs p seat low held rises as_long cs' (λ j ne. put_else p.contents k d j ne) (λ _. sym (put_here p.contents k d)) (λ _ _. at_k) (λ _ _. (refl, (m, even))) [] tt tt (e ∷ []) pairs (law.by ∙ by, tt) legal tree,
       record {
         is = refl;
         answers = record { whole = p.history; is = refl; fits = subst (λ (y : ℕ). HasSeen p.history y v.seen) (sym by) kn.seen; legal = (pairs, legal) };

@@ -3,6 +3,8 @@ pub mod Sought
 pub mod Seeks
 pub mod Leaves
 pub mod Written
+pub mod Left
+pub mod Taken
 pub mod Ended
 pub mod Made
 pub mod Reached
@@ -11,4 +13,3 @@ pub mod Tries
 pub mod Ordered
 pub mod Unlinks
 pub mod Twos
-pub mod Threes

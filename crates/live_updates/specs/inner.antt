@@ -1,3 +1,4 @@
 pub mod Lookups
 pub mod Updates
 pub mod Ends
+pub mod Losses

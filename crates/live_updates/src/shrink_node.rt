@@ -1,5 +1,5 @@
 //! A node of few children is replaced by one of the next smaller form.
-ghost use Rattle.std.specs.Prelude.{◌≡◌, ◌↔◌, ◌<◌, ◌≤◌, ◌^◌, [], length};
+ghost use Rattle.std.specs.Prelude.{◌≡◌, ◌↔◌, ◌<◌, ◌≤◌, [], length};
 ghost use Rattle.node_base.specs.Form.{limit, few_in};
 ghost use Rattle.live_layout.specs.Words.{Looks};
 ghost use Rattle.live_layout.specs.Encodes.{words_of, counted};
@@ -11,23 +11,20 @@ ghost use Rattle.live_growth.specs.Rooms.{HasGrown};
 ghost use Rattle.live_growth.specs.FreeNodes.{HasFreeNodes};
 ghost use Rattle.live_reads.specs.Positions.{KnowsPosition};
 ghost use Rattle.live_updates.specs.declared.shrink_node.Fill.TheVariants.{Empty, Few, Enough};
-ghost use Rattle.live_updates.specs.Three.{HasThree};
 
-use crate::detach::{Two, lock_two, unlock_two};
 use live_growth::free_nodes::FreeNodes;
-use live_growth::held::{reclaim, unlock_again};
+use live_growth::held::reclaim;
 use live_growth::link::Room;
-use live_growth::source::Source;
-use live_law::law::{Asks, MapLaw, MapView, Same};
-use live_layout::change::change;
+use live_growth::replace::{Reclaimed, Resizes, replace};
+use live_growth::two::{lock_two, unlock_two};
+use live_law::law::{Asks, MapLaw, MapView};
 use live_layout::fill::shrink;
-use live_layout::form::{form_below, place_of, room_of, smaller_of, word_below};
+use live_layout::form::{form_below, place_of, room_of, smaller_of};
 use live_layout::list;
 use live_layout::words::WriteWords;
-use live_nodes::node;
 use live_nodes::rows::LockedWords;
 use live_reads::descend::{End, Position, descend};
-use live_reads::path::{Cell, Nodes, Seat, byte_at, words_at};
+use live_reads::path::{Nodes, Seat, words_at};
 use node_base::base_node::NodeType;
 use std::marker::Brand;
 
@@ -86,45 +83,28 @@ pub fn fill_of<S, D: WriteWords<S>>(draft: &D, form: NodeType, seat: &mut S) -> 
     }
 }
 
-/// Puts a node that is used again in the place of one with few children, below the node above. All three are locked.
-fn replace<A: Asks>(
-    words: &[Cell],
-    words_above: &[Cell],
-    others: &[Cell],
-    position: Position,
-    key: u64,
-    two: Two,
-    back: u64,
-    spare: u64,
-    seat: &mut Seat,
-)
-    requires asks { (A.ask.key ≡ key) × (A.ask.height ≡ position.height) }
-    requires height { (1 ≤ position.height) × (position.height < position.level)
-        × (position.level ≤ 8) }
-    requires spare { spare < 2 ^ 56 }
-    requires three { HasThree seat.old.view seat.old.book words.now words_above.now others.now
-        two.free two.free_above back spare position key }
-    ensures told { (seat.new.book ≡ seat.old.book) × (seat.new.id ≡ seat.old.id)
-        × HasGrown seat.old.view seat.new.view
-        × (seat.new.view.room ≡ seat.old.view.room) }
-{
-    let form = form_below(position.name);
-    let source = Source { words };
-    let new: LockedWords<'_, MapView, MapLaw, 0> = LockedWords { words: others };
-    shrink(&source, form, &new, seat);
-    let above = form_below(position.above);
-    let byte = byte_at(key, position.level);
-    let held: LockedWords<'_, MapView, MapLaw, 2> = LockedWords { words: words_above };
-    let _ = change(
-        &held,
-        above,
-        byte,
-        word_below(spare, form_below(spare)),
-        seat,
-    );
-    unlock_again::<A, Brand>(&words_above[0], two.free_above, seat);
-    node::unlock::<MapView, MapLaw, Same>(&others[0], back, seat);
-    node::retire::<MapView, MapLaw, Same>(&words[0], two.free, seat);
+/// Into the next smaller form.
+struct Shrinks;
+
+impl Resizes for Shrinks {
+    ghost use Rattle.std.specs.Prelude.{◌≡◌, ◌≢◌, ◌≤◌};
+    ghost use Rattle.node_base.specs.Form.{limit, smaller_form};
+    ghost use Rattle.node_base.specs.declared.base_node.NodeType.TheVariants.{N4};
+    ghost use Rattle.live_layout.specs.Encodes.{counted, most};
+
+    ghost asks = { λ form other c. (form ≢ N4) × (other ≡ smaller_form form)
+        × (counted (limit form) c ≤ most (limit (smaller_form form))) };
+
+    fn resize<S, D: WriteWords<S>, E: WriteWords<S>>(
+        from: &D,
+        form: NodeType,
+        to: &E,
+        other: NodeType,
+        seat: &mut S,
+    ) {
+        let _ = other;
+        shrink(from, form, to, seat)
+    }
 }
 
 /// Puts a node of the next smaller form in the place of one with few children, below the node above, on the path of a key. It is
@@ -180,17 +160,12 @@ fn shrink_node<A: Asks>(
         unlock_two(words, words_above, two, seat);
         return false;
     };
-    replace::<A>(
-        words,
-        words_above,
-        others,
-        position,
-        key,
-        two,
-        back,
-        spare,
-        seat,
-    );
+    let smaller = Reclaimed {
+        name: spare,
+        words: others,
+        free: back,
+    };
+    replace::<A, Shrinks>(words, words_above, position, key, two, smaller, seat);
     true
 }
 

@@ -93,7 +93,7 @@ fn take_out(nodes: &Nodes, position: Position, key: u64, room: &mut Room, seat: 
         × IsReady seat.new.view room.new
         × (seat.new.view.client.seen ≡ seat.old.view.client.seen) }
 {
-    if position.height >= 8 || room.spare.more != 0 {
+    if position.height >= 8 || position.level >= 8 || room.spare.more != 0 {
         return true;
     }
     match detach(nodes, position, key, seat) {
@@ -103,7 +103,7 @@ fn take_out(nodes: &Nodes, position: Position, key: u64, room: &mut Room, seat: 
 }
 
 /// Tidies the path of a key, as `tidy` does, from the node at which it ends. That one isn't looked for, unless a writer came in
-/// between.
+/// between, or the node above it is the root: a look-up notes the root where it doesn't keep the node above a leaf.
 pub fn tidy_from(nodes: &Nodes, position: Position, key: u64, room: &mut Room, seat: &mut Seat)
     requires book { seat.old.book ≡ nodes.now }
     requires ready { IsReady seat.old.view room.old }

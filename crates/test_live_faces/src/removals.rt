@@ -77,6 +77,107 @@ fn all_pairs_are_removed_of_nodes_of_each_form(rt: HostRuntime) -> Result<(), Fa
     Ok(())
 }
 
+// Keys, and what an extraction of a range of them is to hand on: how many pairs, and the sum of their keys. How many stay.
+#[derive(Clone, Copy)]
+struct Extraction {
+    keys: (u64, u64, u32),
+    range: (u64, u64),
+    count: u128,
+    sum: u64,
+    left: u128,
+}
+
+// Parts of leaves, whole leaves of each form, leaves far from one another, and both ends.
+const EXTRACTIONS: [Extraction; 8] = [
+    Extraction {
+        keys: (0, 1, 600),
+        range: (200, 300),
+        count: 101,
+        sum: 25_250,
+        left: 499,
+    },
+    Extraction {
+        keys: (0, 1, 600),
+        range: (0, 599),
+        count: 600,
+        sum: 179_700,
+        left: 0,
+    },
+    Extraction {
+        keys: (0, 20, 13),
+        range: (20, 200),
+        count: 10,
+        sum: 1_100,
+        left: 3,
+    },
+    Extraction {
+        keys: (0, 6, 40),
+        range: (100, 255),
+        count: 23,
+        sum: 3_864,
+        left: 17,
+    },
+    Extraction {
+        keys: (3, 2, 3),
+        range: (4, 5),
+        count: 1,
+        sum: 5,
+        left: 2,
+    },
+    Extraction {
+        keys: (0, 100, 30),
+        range: (250, 1000),
+        count: 8,
+        sum: 5_200,
+        left: 22,
+    },
+    Extraction {
+        keys: (1, 1 << 40, 5),
+        range: (2, u64::MAX),
+        count: 4,
+        sum: (10 << 40) + 4,
+        left: 1,
+    },
+    Extraction {
+        keys: (u64::MAX - 3, 1, 4),
+        range: (u64::MAX - 1, u64::MAX),
+        count: 2,
+        sum: u64::MAX - 2,
+        left: 2,
+    },
+];
+
+// Extracts a range: how many pairs it returns, the sum of the keys that it hands on, and whether these ascend, each with its value.
+fn extracted<R: Wait>(rt: &R, map: &Map, range: (u64, u64)) -> (u128, u64, bool) {
+    let mut guard = map.pin();
+    let (mut sum, mut next, mut right) = (0u64, range.0, true);
+    let count = map.extract_range_inclusive(
+        rt,
+        &mut guard,
+        &range.0,
+        &range.1,
+        &mut |key: u64, value: u64| {
+            right = right && key >= next && value == key ^ 1;
+            sum = sum.wrapping_add(key);
+            next = key.wrapping_add(1);
+        },
+    );
+    (count, sum, right)
+}
+
+#[test]
+fn a_range_is_extracted_of_several_leaves(rt: HostRuntime) -> Result<(), Fail> {
+    for one in EXTRACTIONS {
+        let map: Map = Congee::new(rt.alloc())?;
+        let (first, step, count) = one.keys;
+        fill(&rt, rt.alloc(), &map, Keys { first, step, count })?;
+        let out = extracted(&rt, &map, one.range);
+        let left = map.clear(&rt, &mut map.pin());
+        assert!(rt; out == (one.count, one.sum, true) && left == one.left);
+    }
+    Ok(())
+}
+
 // Pops what a writer may have left. How many of its keys are even.
 fn even_popped<R: Wait>(rt: &R, map: &Map) -> u32 {
     let mut guard = map.pin();

@@ -1,7 +1,7 @@
-//! Removals of many pairs, one by one.
+//! Removals of many pairs, leaf by leaf.
 //!
-//! Each pair is removed by a pop of the keys behind the one before, at a moment of its own. So each key that is there throughout the
-//! call is removed. A key that another thread inserts meanwhile may stay.
+//! The pairs of a leaf are removed at one moment. Each of them is popped: it is the first one behind the one before. So each key
+//! that is there throughout the call is removed. A key that another thread inserts meanwhile may stay.
 //!
 //! Tested in `test_live_faces`.
 ghost use Rattle.std.specs.Prelude.{◌≡◌, ℕ, ◌+◌, ◌^◌};
@@ -30,7 +30,7 @@ impl<K: Word, V: Word, F: FnMut(K, V)> Receiver<F> for Numbers<K, V> {
 }
 
 impl<K: Word, V: Word> Congee<K, V> {
-    /// Removes the pairs with keys, by numbers, from `first` to `last`, both included, one by one, keys ascending. Returns how many
+    /// Removes the pairs with keys, by numbers, from `first` to `last`, both included, leaf by leaf, keys ascending. Returns how many
     /// this call removed: 2 to the 64 at most. Needs no memory. Pauses where too many writers come in between, and goes on.
     pub fn remove_range_inclusive<R: Wait>(
         &self,
@@ -47,10 +47,10 @@ impl<K: Word, V: Word> Congee<K, V> {
         removals::remove_range(rt, &self.pool, guard, first.into_u64(), last.into_u64())
     }
 
-    /// Removes the pairs with keys, by numbers, from `first` to `last`, both included, one by one, keys ascending. Calls the closure
-    /// with each once it is removed, key and value read back from their numbers. Returns how many this call removed: 2 to the 64 at
-    /// most. The closure may call the map by another guard. Needs no memory. Pauses where too many writers come in between, and
-    /// goes on.
+    /// Removes the pairs with keys, by numbers, from `first` to `last`, both included, leaf by leaf, keys ascending. Calls the closure
+    /// with each once its leaf's pairs are removed, key and value read back from their numbers. Returns how many this call removed:
+    /// 2 to the 64 at most. The closure may call the map by another guard. Needs no memory. Pauses where too many writers come in
+    /// between, and goes on.
     pub fn extract_range_inclusive<R: Wait, F: FnMut(K, V)>(
         &self,
         rt: &R,
@@ -71,7 +71,7 @@ impl<K: Word, V: Word> Congee<K, V> {
         removals::extract_range::<R, F, Numbers<K, V>>(rt, &self.pool, guard, low, high, f)
     }
 
-    /// Removes all pairs, one by one, keys ascending. Returns how many this call removed: 2 to the 64 at most. Needs no memory, and
+    /// Removes all pairs, leaf by leaf, keys ascending. Returns how many this call removed: 2 to the 64 at most. Needs no memory, and
     /// frees none. Pauses where too many writers come in between, and goes on.
     pub fn clear<R: Wait>(&self, rt: &R, guard: &mut Guard) -> u128
         requires map { guard.old.book ≡ self.now }

@@ -13,15 +13,9 @@ returns-then-spare-eq0 c =
     let g = s.grown in
     record { told = (s.seat.0, s.seat.1, s.ready, g) }
 
-pub grow_node-requires-clause-above : goal.grow_node-requires-clause-above
-grow_node-requires-clause-above c =
-    let g = c.spare_or_made-spare.ensures.grown in
-    (position_grown c.args.seat.now.view c.spare_or_made-spare.new.seat.view c.args.key c.args.position g c.requires.position).upper c.requires.lower
-
-pub grow_node-requires-clause-named : goal.grow_node-requires-clause-named
-grow_node-requires-clause-named c =
-    let g = c.spare_or_made-spare.ensures.grown in
-    (position_grown c.args.seat.now.view c.spare_or_made-spare.new.seat.view c.args.key c.args.position g c.requires.position).named
+pub grow_node-requires-clause-position : goal.grow_node-requires-clause-position
+grow_node-requires-clause-position c =
+    position_grown c.args.seat.now.view c.spare_or_made-spare.new.seat.view c.args.key c.args.position c.spare_or_made-spare.ensures.grown c.requires.position
 
 pub grow_node-requires-clause-spare : goal.grow_node-requires-clause-spare
 grow_node-requires-clause-spare c =
@@ -36,5 +30,4 @@ returns c =
     let s = c.spare_or_made-spare.ensures in
     let g = s.grown in
     let e = c.grow_node.ensures in
-    let t = e.told in
-    record { told = (t.0 ∙ s.seat.0, t.1 ∙ s.seat.1, ready_again w x c.spare_or_made-spare.new.room c.grow_node.new.free_nodes s.ready t.2 t.3 e.free_nodes, grown_twice v w x g t.2) }
+    record { told = (e.seat.0 ∙ s.seat.0, e.seat.1 ∙ s.seat.1, ready_again w x c.spare_or_made-spare.new.room c.grow_node.new.free_nodes s.ready e.grown e.room e.free_nodes, grown_twice v w x g e.grown) }

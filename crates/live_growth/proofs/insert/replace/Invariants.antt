@@ -3,4 +3,4 @@ use Rattle.live_law.specs.Views.{ask}
 use Rattle.live_growth.proofs.insert.replace.Given as goal
 
 abbrev pub ghosts-grow_node : goal.ghosts-grow_node
-ghosts-grow_node a = record { ask = ask a.seat.now.id a.key 0 a.height; reads = false }
+ghosts-grow_node a = record { ask = ask a.seat.now.id a.key 0 a.position.height; reads = false }

@@ -3,7 +3,8 @@ use Rattle.live_growth.specs.Holds.{HasRest}
 use Rattle.live_growth.proofs.Locks.{alike_then}
 use Rattle.live_updates.specs.Two.{PartsTwo}
 use Rattle.live_updates.specs.declared.shrink_node.Fill.TheVariants.{Empty}
-use Rattle.live_updates.proofs.Twos.{lower_may, lower_draft, lower_long, none_counted, alike_same, rest_keeps}
+use Rattle.live_growth.proofs.Twos.{lower_may, lower_draft, lower_long, alike_same}
+use Rattle.live_updates.proofs.Twos.{none_counted, rest_keeps}
 use Rattle.live_updates.proofs.detach.detach.Goals as goal
 
 pub fill_of-requires-clause-may : goal.fill_of-requires-clause-may

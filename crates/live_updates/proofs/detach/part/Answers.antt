@@ -17,7 +17,8 @@ use Rattle.live_reads.proofs.Views.{first_word}
 use Rattle.live_growth.proofs.Pairs.{Pair, pair_wrote, pair_frees, pair_freed, few_counted}
 use Rattle.live_updates.specs.Unlinks.{Unlinks, left_out}
 use Rattle.live_updates.proofs.Unlinks.{Loses, unlink}
-use Rattle.live_updates.proofs.Twos.{as_pair, upper_may, upper_draft, upper_long, loses, alike_same, alike_wrote, alike_freed}
+use Rattle.live_growth.proofs.Twos.{as_pair, upper_may, upper_draft, upper_long, alike_same, alike_wrote, alike_freed}
+use Rattle.live_updates.proofs.Twos.{loses}
 use Rattle.live_updates.proofs.detach.part.Goals as goal
 use Rattle.live_updates.proofs.detach.part.Goals.{After-form_below-form, After-index-words_above-0, After-index-words-0}
 

@@ -10,8 +10,9 @@ use Rattle.live_growth.proofs.Linked.{when_none}
 use Rattle.live_growth.proofs.Locks.{alike_then}
 use Rattle.live_growth.proofs.FreeNodes.{one_form}
 use Rattle.live_updates.specs.declared.shrink_node.Fill.TheVariants.{Few}
-use Rattle.live_updates.proofs.Twos.{lower_may, lower_draft, lower_long, alike_same}
-use Rattle.live_updates.proofs.Threes.{two_on, lead_on, few_fit, rest_grown, alike_grown}
+use Rattle.live_growth.proofs.Twos.{lower_may, lower_draft, lower_long, alike_same}
+use Rattle.live_growth.proofs.Threes.{two_on, lead_on, rest_grown, alike_grown}
+use Rattle.live_updates.proofs.Twos.{few_fit}
 use Rattle.live_updates.proofs.shrink_node.shrink_node.Given.{Over}
 use Rattle.live_updates.proofs.shrink_node.shrink_node.Goals as goal
 use Rattle.live_updates.proofs.shrink_node.shrink_node.Goals.{In-Some-lock_two, After-fill_of}
@@ -89,19 +90,21 @@ replace-requires-clause-three g c =
       lead = lead_on _ _ _ _ _ _ _ _ (ap (λ z. z.view.places) same) (ap (λ z. z.view.holds) same) (ap (λ z. z.view.client) same) (rt.0 ∙ ap (λ z. z.book) same) c.args.position c.args.key l;
       reclaimed = hr;
       are = subst (λ z. AreNamed z c.args.spare c.in-Some-words_at-2.others.now) (sym (rt.0 ∙ (book g a ∙ c.requires.book))) c.in-Some-words_at-2.ensures;
-      some_form = λ e. some_form (is ∙ e);
-      smaller = sym kind ∙ (smaller ∙ (c.smaller_of.ensures ∙ ap smaller_form is));
-      few = subst (λ (z : NodeType × List ℕ). counted (limit z.0) z.1 ≤ most (limit (smaller_form z.0))) (λ i. (is i, lower_draft l.two i)) few;
+      resizes = (
+        (λ e. some_form (is ∙ e)),
+        sym kind ∙ (smaller ∙ (c.smaller_of.ensures ∙ ap smaller_form is)),
+        subst (λ (z : NodeType × List ℕ). counted (limit z.0) z.1 ≤ most (limit (smaller_form z.0))) (λ i. (is i, lower_draft l.two i)) few,
+      );
     }
 
 pub returns-clause-told : goal.returns-clause-told
 returns-clause-told g c =
     let a = (goal.at.returns-clause-told g c).After-fill_of in
     let rt = c.in-Some-reclaim.ensures.told in
-    let e = c.replace.ensures.told in
+    let e = c.replace.ensures in
     let alike_o = alike_then c.args.seat.now.view c.fill_of.new.seat.view c.reclaim.new.seat.view (alike g a) rt.2.alike in (
-      e.0 ∙ (rt.0 ∙ book g a),
-      e.1 ∙ (rt.1 ∙ id g a),
-      alike_grown c.args.seat.now.view c.reclaim.new.seat.view c.replace.new.seat.view alike_o (rt.2.seen ∙ seen g a) e.2,
-      e.3 ∙ (rt.2.alike.room ∙ (alike g a).room),
+      e.seat.0 ∙ (rt.0 ∙ book g a),
+      e.seat.1 ∙ (rt.1 ∙ id g a),
+      alike_grown c.args.seat.now.view c.reclaim.new.seat.view c.replace.new.seat.view alike_o (rt.2.seen ∙ seen g a) e.grown,
+      e.room ∙ (rt.2.alike.room ∙ (alike g a).room),
     )

@@ -1,5 +1,4 @@
-use Rattle.std.proofs.Common.{arith, sym, ap, subst, length, ℕ, Option, Some, None, List, [], ◌∷◌, ◌≡◌, ◌≤◌, ◌+◌, ◌/◌, ◌∙◌}
-use Rattle.node_base.specs.Form.{limit, smaller_form}
+use Rattle.std.proofs.Common.{arith, sym, ap, subst, length, ℕ, Option, Some, None, List, [], ◌∷◌, ◌≡◌, ◌+◌, ◌/◌, ◌∙◌}
 use Rattle.node_base.specs.declared.base_node.NodeType.{NodeType}
 use Rattle.spec_node.specs.TableNode.{TableNode, Child}
 use Rattle.spec_node.specs.declared.child.Child.TheVariants.{Node}
@@ -9,7 +8,7 @@ use Rattle.live_nodes.specs.Nodes.{Content}
 use Rattle.live_nodes.specs.Seats.{SeatView, seat_view, Place, Hold, IsIn, hold}
 use Rattle.live_nodes.specs.Acts as acts
 use Rattle.live_nodes.specs.Rows.{AreOf, draft_of, nth}
-use Rattle.live_layout.specs.Encodes.{words_of, counted, most, Encodes, IsBelow, IsWord, in_form}
+use Rattle.live_layout.specs.Encodes.{words_of, Encodes, IsBelow, IsWord, in_form}
 use Rattle.live_law.specs.Levels.{up, digit, Spot, place_at}
 use Rattle.live_law.specs.Views.{View, locked, detached, rest_of}
 use Rattle.live_law.specs.Tree.{IsMap, LinksAgain, StaysSame, again, left_again}
@@ -21,16 +20,16 @@ use Rattle.live_growth.proofs.Pairs.{change_done, at_result, grown_changes}
 use Rattle.live_growth.proofs.Again.{first_frees, first_freed}
 use Rattle.live_growth.proofs.Sources.{source_apart}
 use Rattle.live_growth.proofs.Triples.{Triple, triple_first, triple_second, triple_third, triple_drafts, triple_filled, triple_wrote, triple_frees, triple_freed, regrown}
-use Rattle.live_updates.proofs.Threes.{three_own, as_triple}
-use Rattle.live_updates.proofs.shrink_node.replace.Given.{Over}
-use Rattle.live_updates.proofs.shrink_node.replace.Goals as goal
-use Rattle.live_updates.proofs.shrink_node.replace.Goals.{After-form_below-form, After-shrink, After-index-words_above-0, After-index-others-0, After-index-words-0}
+use Rattle.live_growth.proofs.Threes.{three_own, as_triple}
+use Rattle.live_growth.proofs.replace.replace.Given.{Over}
+use Rattle.live_growth.proofs.replace.replace.Goals as goal
+use Rattle.live_growth.proofs.replace.replace.Goals.{After-form_below-other, After-resize, After-index-words_above-0, After-index-others-0, After-index-words-0}
 
 abbrev Seen : Type 0
 Seen = SeatView View
 
 -- THREE NODES ARE LOCKED: the lower one, the upper one, and the one that is used again
-module _ (g : Over) (c : After-form_below-form g) where
+module _ (g : Over) (c : After-form_below-other g) where
   abbrev x : Spot
   x = c.requires.three.lead.two.below
 
@@ -49,31 +48,34 @@ module _ (g : Over) (c : After-form_below-form g) where
   form : c.form_below-form.result ≡ x.shape.form
   form = c.form_below-form.ensures x.shape.key x.shape.form c.requires.three.lead.named
 
+  other : c.form_below-other.result ≡ r.shape.form
+  other = c.form_below-other.ensures r.shape.key r.shape.form c.requires.three.reclaimed.named
+
   -- the seat holds them, with these drafts of the one that is used again and of the upper one
   abbrev Hold3 : Seen → Book → Content → Content → Type 0
-  Hold3 v b dr dp = Triple v b c.args.others.now c.args.words.now c.args.words_above.now c.args.back c.args.two.free c.args.two.free_above r x p dr cx dp
+  Hold3 v b dr dp = Triple v b c.args.spare.words.now c.args.words.now c.args.words_above.now c.args.spare.free c.args.two.free c.args.two.free_above r x p dr cx dp
 
   three : Hold3 c.args.seat.now.view c.args.seat.now.book c.requires.three.reclaimed.content cp
   three = as_triple c.requires.three
 
 -- it is filled
-module _ (g : Over) (c : After-shrink g) where
-  abbrev start : After-form_below-form g
-  start = (goal.at.After-shrink g c).After-form_below-form
+module _ (g : Over) (c : After-resize g) where
+  abbrev start : After-form_below-other g
+  start = (goal.at.After-resize g c).After-form_below-other
 
-  filled : Hold3 g start c.shrink.new.seat.view c.shrink.new.seat.book (draft_of (nth 0 c.shrink.new.seat.view.holds)) (cp g start)
-  filled = let others = c.shrink.ensures.seat.others in triple_filled (three g start) c.shrink.new.seat.view c.shrink.new.seat.book (ap (λ s. s.book) others) (ap (λ s. s.view) others)
+  filled : Hold3 g start c.resize.new.seat.view c.resize.new.seat.book (draft_of (nth 0 c.resize.new.seat.view.holds)) (cp g start)
+  filled = let others = c.resize.ensures.seat.others in triple_filled (three g start) c.resize.new.seat.view c.resize.new.seat.book (ap (λ s. s.book) others) (ap (λ s. s.view) others)
 
 -- the upper one leads to it
 module _ (g : Over) (c : After-index-words_above-0 g) where
-  abbrev shrunk : After-shrink g
-  shrunk = (goal.at.After-index-words_above-0 g c).After-shrink
+  abbrev resized : After-resize g
+  resized = (goal.at.After-index-words_above-0 g c).After-resize
 
-  abbrev given : After-form_below-form g
-  given = start g shrunk
+  abbrev given : After-form_below-other g
+  given = start g resized
 
   abbrev dr : Content
-  dr = draft_of (nth 0 c.shrink.new.seat.view.holds)
+  dr = draft_of (nth 0 c.resize.new.seat.view.holds)
 
   abbrev cr : Content
   cr = draft_of (nth 0 c.change.new.seat.view.holds)
@@ -82,13 +84,13 @@ module _ (g : Over) (c : After-index-words_above-0 g) where
   dp = draft_of (nth 2 c.change.new.seat.view.holds)
 
   wrote : Hold3 g given c.change.new.seat.view c.change.new.seat.book dr dp
-  wrote = let others = c.change.ensures.seat.others in triple_wrote (filled g shrunk) c.change.new.seat.view c.change.new.seat.book (ap (λ s. s.book) others) (ap (λ s. s.view) others)
+  wrote = let others = c.change.ensures.seat.others in triple_wrote (filled g resized) c.change.new.seat.view c.change.new.seat.book (ap (λ s. s.book) others) (ap (λ s. s.view) others)
 
   same_draft : cr ≡ dr
   same_draft = (triple_drafts wrote).0
 
   all_own : c.change.new.seat.view.client.own ≡ detached (r g given) ∷ locked (x g given) (cx g given) ∷ locked (p g given) (cp g given) ∷ []
-  all_own = ap (λ s. s.view.client.own) c.change.ensures.seat.others ∙ (ap (λ s. s.view.client.own) c.shrink.ensures.seat.others ∙ three_own c.requires.three)
+  all_own = ap (λ s. s.view.client.own) c.change.ensures.seat.others ∙ (ap (λ s. s.view.client.own) c.resize.ensures.seat.others ∙ three_own c.requires.three)
 
   at_p : (p g given).shape.key ≡ c.index-words_above-0.result.key
   at_p = (first_word (place_at (p g given)) c.change.new.seat.book c.args.words_above.now wrote.are_p c.index-words_above-0.result c.index-words_above-0.result (sym c.index-words_above-0.is)).0
@@ -107,26 +109,25 @@ module _ (g : Over) (c : After-index-words_above-0 g) where
       let there = λ (none : lookup h.its.children c.byte_at-byte.result ≡ None). subst (λ (z : Option (Child ℕ)). IsBelow z (Some l.leads.0)) none under in
       let named = λ (k : TableNode ℕ) (encodes : Encodes (cp g given) k) (formed : k.form ≡ (p g given).shape.form). subst (λ z. IsBelow (lookup k.children z) (Some l.leads.0)) at_key (l.leads.1 k encodes formed) in
       let spells = λ (t : ℕ) (e : IsWord l.leads.0 (Node t)). l.leads.2 t e ∙ l.named in
-      let was = (triple_drafts (filled g shrunk)).2 in
-      let before = draft_of (nth 2 c.shrink.new.seat.view.holds) in
+      let was = (triple_drafts (filled g resized)).2 in
+      let before = draft_of (nth 2 c.resize.new.seat.view.holds) in
       let changed = change_done c.change.result (cp g given) before was h.its h.encodes c.form_below-above.result (h.in_form ∙ sym form_p) c.byte_at-byte.result there c.change.ensures.was in
-      let changes = grown_changes q (cp g given) before was dp c.form_below-above.result (p g given) (again q (r g given)) c.byte_at-byte.result (c.byte_at-byte.ensures ∙ at_key) form_p c.word_below.result c.args.spare c.word_below.ensures.child th.reclaimed.named c.args.position.level l.high_above (omega (arith, ht)) (at_result c.change.result changed c.change.ensures.is) in
+      let changes = grown_changes q (cp g given) before was dp c.form_below-above.result (p g given) (again q (r g given)) c.byte_at-byte.result (c.byte_at-byte.ensures ∙ at_key) form_p c.word_below.result c.args.spare.name c.word_below.ensures.child th.reclaimed.named c.args.position.level l.high_above (omega (arith, ht)) (at_result c.change.result changed c.change.ensures.is) in
       let covers_p = ap (up (p g given).shape.height) asks.0 ∙ l.covers_above in
       let covers_x = ap (up (x g given).shape.height) asks.0 ∙ l.covers in
-      let smaller = ap smaller_form (form g given) ∙ sym th.smaller in
       let lower_draft = (triple_drafts (three g given)).1 in
-      let shrinks = λ (k : TableNode ℕ) (encodes : Encodes (cx g given) k) (formed : k.form ≡ (x g given).shape.form). subst (λ (z : List ℕ × NodeType). Encodes z.0 (in_form k z.1)) (λ i. (sym same_draft i, smaller i)) (c.shrink.ensures.is k (subst (λ z. Encodes z k) (sym lower_draft) encodes) (formed ∙ sym (form g given))) in
+      let resizes = λ (k : TableNode ℕ) (encodes : Encodes (cx g given) k) (formed : k.form ≡ (x g given).shape.form). subst (λ (z : List ℕ × NodeType). Encodes z.0 (in_form k z.1)) (λ i. (sym same_draft i, other g given i)) (c.resize.ensures.is k (subst (λ z. Encodes z k) (sym lower_draft) encodes) (formed ∙ sym (form g given))) in
       let high_p = l.high_above in
       let even = h.even in
       link_grown q c.change.new.seat.id c.change.new.seat.view.client (r g given) (x g given) (p g given) cr (cx g given) (cp g given) all_own (c.args.two.free_above + 4) (c.args.two.free_above / 4 + 1) (omega (arith, even)) dp
-      (omega (arith, asks.1, high_p, ht)) (omega (arith, asks.1, ht)) covers_p (l.high ∙ sym asks.1) covers_x (c.change.ensures.long ∙ ap words_of form_p) changes l.leads.0 named spells shrinks
+      (omega (arith, asks.1, high_p, ht)) (omega (arith, asks.1, ht)) covers_p (l.high ∙ sym asks.1) covers_x (c.change.ensures.long ∙ ap words_of form_p) changes l.leads.0 named spells resizes
 
 -- it is in use
 module _ (g : Over) (c : After-index-others-0 g) where
   abbrev led : After-index-words_above-0 g
   led = (goal.at.After-index-others-0 g c).After-index-words_above-0
 
-  abbrev given_of : After-form_below-form g
+  abbrev given_of : After-form_below-other g
   given_of = given g led
 
   abbrev r_of : Spot
@@ -139,7 +140,7 @@ module _ (g : Over) (c : After-index-others-0 g) where
   hold_x = hold x_of.number (c.args.two.free + 2) (cx g given_of)
 
   abbrev hold_r : Hold
-  hold_r = hold r_of.number (c.args.back + 2) (dr g led)
+  hold_r = hold r_of.number (c.args.spare.free + 2) (dr g led)
 
   linked : (e : View) × (c.unlock_again.new.seat.view ≡ seat_view e c.change.new.seat.view.places c.change.new.seat.view.reads (hold_r ∷ hold_x ∷ []) c.change.new.seat.view.room) × LinksAgain g.A.Asks.ask (cr g led) c.change.new.seat.view.client (p g given_of).number (dp g led) e
   linked = triple_freed (wrote g led) c.index-words_above-0.result.key (at_p g led) (LinksAgain g.A.Asks.ask (cr g led)) c.unlock_again.new.seat.view (c.args.two.free_above + 4) c.unlock_again.ensures.told
@@ -158,8 +159,8 @@ module _ (g : Over) (c : After-index-others-0 g) where
 
   at_r : r_of.shape.key ≡ c.index-others-0.result.key
   at_r =
-      let are = subst (λ k. AreOf (place_at r_of) k c.args.others.now) (sym c.unlock_again.ensures.seat.0) (wrote g led).are_r in
-      (first_word (place_at r_of) c.unlock_again.new.seat.book c.args.others.now are c.index-others-0.result c.index-others-0.result (sym c.index-others-0.is)).0
+      let are = subst (λ k. AreOf (place_at r_of) k c.args.spare.words.now) (sym c.unlock_again.ensures.seat.0) (wrote g led).are_r in
+      (first_word (place_at r_of) c.unlock_again.new.seat.book c.args.spare.words.now are c.index-others-0.result c.index-others-0.result (sym c.index-others-0.is)).0
 
 -- it is free
 module _ (g : Over) (c : After-index-words-0 g) where
@@ -167,7 +168,7 @@ module _ (g : Over) (c : After-index-words-0 g) where
   used = (goal.at.After-index-words-0 g c).After-index-others-0
 
   freed : (e : View) × (c.unlock.new.seat.view ≡ seat_view e c.unlock_again.new.seat.view.places c.unlock_again.new.seat.view.reads (hold_x g used ∷ []) c.unlock_again.new.seat.view.room) × StaysSame c.unlock_again.new.seat.view.client (r_of g used).number (dr g (led g used)) e
-  freed = first_freed c.unlock_again.new.seat.view (r_of g used) c.args.back (dr g (led g used)) (hold_x g used ∷ []) (linked_holds g used) (placed_r g used) c.index-others-0.result.key (at_r g used) StaysSame ((wrote g (led g used)).x_r, tt) c.unlock.new.seat.view (c.args.back + 4) c.unlock.ensures.told
+  freed = first_freed c.unlock_again.new.seat.view (r_of g used) c.args.spare.free (dr g (led g used)) (hold_x g used ∷ []) (linked_holds g used) (placed_r g used) c.index-others-0.result.key (at_r g used) StaysSame ((wrote g (led g used)).x_r, tt) c.unlock.new.seat.view (c.args.spare.free + 4) c.unlock.ensures.told
 
   grip : Grips c.unlock.new.seat.view c.unlock.new.seat.book c.args.words.now c.args.two.free (place_at (x_of g used)) (cx g (given_of g used))
   grip = record {
@@ -179,36 +180,33 @@ module _ (g : Over) (c : After-index-words-0 g) where
   at_x : (x_of g used).shape.key ≡ c.index-words-0.result.key
   at_x = (first_word (place_at (x_of g used)) c.unlock.new.seat.book c.args.words.now grip.are c.index-words-0.result c.index-words-0.result (sym c.index-words-0.is)).0
 
-pub shrink-requires-clause-form : goal.shrink-requires-clause-form
-shrink-requires-clause-form g c = λ e. c.requires.three.some_form (sym (form g (goal.at.shrink-requires-clause-form g c).After-form_below-form) ∙ e)
+pub resize-requires-clause-asks : goal.resize-requires-clause-asks
+resize-requires-clause-asks g c =
+    let a = (goal.at.resize-requires-clause-asks g c).After-form_below-other in
+    subst (λ (z : NodeType × NodeType × Content). g.R.Resizes.asks z.0 z.1 z.2) (λ i. (sym (form g a) i, sym (other g a) i, sym (triple_drafts (three g a)).1 i)) c.requires.three.resizes
 
-pub shrink-requires-clause-may : goal.shrink-requires-clause-may
-shrink-requires-clause-may g c =
-    let a = (goal.at.shrink-requires-clause-may g c).After-form_below-form in
+pub resize-requires-clause-may : goal.resize-requires-clause-may
+resize-requires-clause-may g c =
+    let a = (goal.at.resize-requires-clause-may g c).After-form_below-other in
     (triple_second (three g a) c.requires.three.lead.two.held.long, triple_first (three g a) c.requires.three.reclaimed.long)
 
-pub shrink-requires-clause-apart : goal.shrink-requires-clause-apart
-shrink-requires-clause-apart g c =
+pub resize-requires-clause-apart : goal.resize-requires-clause-apart
+resize-requires-clause-apart g c =
     λ s t same may. source_apart c.args.words.now s.book t.book s.view t.view (ap (λ z. z.book) same) (ap (λ z. z.view.places) same) (ap (λ z. z.view.holds) same) may
 
-pub shrink-requires-clause-long : goal.shrink-requires-clause-long
-shrink-requires-clause-long g c =
-    let a = (goal.at.shrink-requires-clause-long g c).After-form_below-form in
+pub resize-requires-clause-long : goal.resize-requires-clause-long
+resize-requires-clause-long g c =
+    let a = (goal.at.resize-requires-clause-long g c).After-form_below-other in
     let th = c.requires.three in
     let drafts = triple_drafts (three g a) in
-    (ap (λ (z : List ℕ). length z) drafts.1 ∙ (th.lead.two.held.long ∙ ap words_of (sym (form g a))), ap (λ (z : List ℕ). length z) drafts.0 ∙ (th.reclaimed.long ∙ ap words_of (th.smaller ∙ ap smaller_form (sym (form g a)))))
-
-pub shrink-requires-clause-few : goal.shrink-requires-clause-few
-shrink-requires-clause-few g c =
-    let a = (goal.at.shrink-requires-clause-few g c).After-form_below-form in
-    subst (λ (z : NodeType × List ℕ). counted (limit z.0) z.1 ≤ most (limit (smaller_form z.0))) (λ i. (sym (form g a) i, sym (triple_drafts (three g a)).1 i)) c.requires.three.few
+    (ap (λ (z : List ℕ). length z) drafts.1 ∙ (th.lead.two.held.long ∙ ap words_of (sym (form g a))), ap (λ (z : List ℕ). length z) drafts.0 ∙ (th.reclaimed.long ∙ ap words_of (sym (other g a))))
 
 pub change-requires-clause-may : goal.change-requires-clause-may
-change-requires-clause-may g c = triple_third (filled g (goal.at.change-requires-clause-may g c).After-shrink) c.requires.three.lead.two.held_above.long
+change-requires-clause-may g c = triple_third (filled g (goal.at.change-requires-clause-may g c).After-resize) c.requires.three.lead.two.held_above.long
 
 pub change-requires-clause-long : goal.change-requires-clause-long
 change-requires-clause-long g c =
-    let a = (goal.at.change-requires-clause-long g c).After-shrink in
+    let a = (goal.at.change-requires-clause-long g c).After-resize in
     let l = c.requires.three.lead in
     let form_p = c.form_below-above.ensures l.two.above.shape.key l.two.above.shape.form l.named_above in
     ap (λ (z : List ℕ). length z) (triple_drafts (filled g a)).2 ∙ (l.two.held_above.long ∙ ap words_of (sym form_p))
@@ -223,8 +221,8 @@ unlock-requires-clause-frees g c =
     let a = (goal.at.unlock-requires-clause-frees g c).After-index-others-0 in
     let m = led g a in
     let even = c.requires.three.reclaimed.even in
-    let stays = node_stays c.unlock_again.new.seat.id c.unlock_again.new.seat.view.client (again g.A.Asks.ask (r_of g a)) (cr g m) (detached (x_of g a) ∷ []) (linked_own g a) ((wrote g m).x_r, tt) (c.args.back + 4) (c.args.back / 4 + 1) (omega (arith, even)) (dr g m) (sym (same_draft g m)) in
-    first_frees c.unlock_again.new.seat.view (r_of g a) c.args.back (dr g m) (hold_x g a ∷ []) (linked_holds g a) (placed_r g a) c.index-others-0.result.key (at_r g a) StaysSame c.unlock_again.new.seat.id (c.args.back + 4) stays
+    let stays = node_stays c.unlock_again.new.seat.id c.unlock_again.new.seat.view.client (again g.A.Asks.ask (r_of g a)) (cr g m) (detached (x_of g a) ∷ []) (linked_own g a) ((wrote g m).x_r, tt) (c.args.spare.free + 4) (c.args.spare.free / 4 + 1) (omega (arith, even)) (dr g m) (sym (same_draft g m)) in
+    first_frees c.unlock_again.new.seat.view (r_of g a) c.args.spare.free (dr g m) (hold_x g a ∷ []) (linked_holds g a) (placed_r g a) c.index-others-0.result.key (at_r g a) StaysSame c.unlock_again.new.seat.id (c.args.spare.free + 4) stays
 
 -- the word of the lower one that is written last
 pub retire-requires-clause-frees : goal.retire-requires-clause-frees
@@ -247,14 +245,14 @@ returns g c =
     let l = linked g u in
     let last = grip_freed c.unlock.new.seat.view c.unlock.new.seat.book c.args.words.now c.args.two.free (place_at (x_of g u)) (cx g s) (grip g a) c.index-words-0.result.key (at_x g a) StaysSame c.retire.new.seat.view (c.args.two.free + 3) c.retire.ensures.told in
     let pr = c.change.ensures.seat.others in
-    let fr = c.shrink.ensures.seat.others in
+    let fr = c.resize.ensures.seat.others in
     let e = c.retire.ensures.seat in
     let grown = regrown c.args.seat.now.view c.change.new.seat.view c.unlock_again.new.seat.view c.unlock.new.seat.view c.retire.new.seat.view l.0 f.0 last.0 g.A.Asks.ask (cr g m) (r_of g u) (x_of g u) (p g s) (cx g s) (cp g s) (hold_r g u ∷ hold_x g u ∷ []) (hold_x g u ∷ [])
     (ap (λ z. z.view.places) pr ∙ ap (λ z. z.view.places) fr) (ap (λ z. z.view.client.met) pr ∙ ap (λ z. z.view.client.met) fr) (ap (λ z. z.view.client.seen) pr ∙ ap (λ z. z.view.client.seen) fr) (all_own g m) l.1 l.2 f.1 f.2 last.1 last.2 in record {
-      told = (
+      seat = (
         e.0 ∙ (c.unlock.ensures.seat.0 ∙ (c.unlock_again.ensures.seat.0 ∙ (ap (λ z. z.book) pr ∙ ap (λ z. z.book) fr))),
         e.1 ∙ (c.unlock.ensures.seat.1 ∙ (c.unlock_again.ensures.seat.1 ∙ (ap (λ z. z.id) pr ∙ ap (λ z. z.id) fr))),
-        grown,
-        ap (λ (k : Seen). k.room) last.1 ∙ (ap (λ (k : Seen). k.room) f.1 ∙ (ap (λ (k : Seen). k.room) l.1 ∙ (ap (λ z. z.view.room) pr ∙ ap (λ z. z.view.room) fr))),
       );
+      grown = grown;
+      room = ap (λ (k : Seen). k.room) last.1 ∙ (ap (λ (k : Seen). k.room) f.1 ∙ (ap (λ (k : Seen). k.room) l.1 ∙ (ap (λ z. z.view.room) pr ∙ ap (λ z. z.view.room) fr)));
     }

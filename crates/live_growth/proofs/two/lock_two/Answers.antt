@@ -9,9 +9,9 @@ use Rattle.live_law.specs.Tree.{IsApart}
 use Rattle.live_reads.specs.Paths.{AreNamed}
 use Rattle.live_growth.specs.Holds.{HasLocked, HasWordOf, HoldsOne}
 use Rattle.live_growth.proofs.Locks.{taken_by, holds_one, may_hold, draft_is, alike_then}
-use Rattle.live_updates.proofs.Twos.{is_held, held_on, alike_same}
-use Rattle.live_updates.proofs.detach.lock_two.Goals as goal
-use Rattle.live_updates.proofs.detach.lock_two.Goals.{In_ok-free_above}
+use Rattle.live_growth.proofs.Twos.{is_held, held_on, alike_same}
+use Rattle.live_growth.proofs.two.lock_two.Goals as goal
+use Rattle.live_growth.proofs.two.lock_two.Goals.{In_ok-free_above}
 
 -- THE UPPER ONE is locked
 module _ (c : In_ok-free_above) where

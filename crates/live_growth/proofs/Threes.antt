@@ -1,21 +1,18 @@
 -- A node and the one above it stay held while a third one is locked.
-use Rattle.std.proofs.Common.{◌≡◌, ◌≢◌, ℕ, ◌≤◌, List, [], ◌∷◌, refl, ap, ◌∙◌, subst, sym, arith}
-use Rattle.node_base.specs.Form.{limit, smaller_form, few_in}
+use Rattle.std.proofs.Common.{◌≡◌, ℕ, List, [], ◌∷◌, refl, ap, ◌∙◌, subst, sym}
 use Rattle.node_base.specs.declared.base_node.NodeType.{NodeType}
-use Rattle.node_base.specs.declared.base_node.NodeType.TheVariants.{N4, N16, N48, N256}
 use Rattle.word_book.specs.Book.{Book, Name}
 use Rattle.live_nodes.specs.Nodes.{Content}
 use Rattle.live_nodes.specs.Seats.{Place, SeatView, IsIn}
-use Rattle.live_layout.specs.Encodes.{counted, most}
 use Rattle.live_law.specs.Levels.{Spot}
 use Rattle.live_law.specs.Views.{View, Own, locked, detached}
 use Rattle.live_growth.specs.Holds.{Alike, HasRest}
 use Rattle.live_growth.specs.Rooms.{HasGrown}
 use Rattle.live_reads.specs.declared.descend.Position.{Position}
 use Rattle.live_growth.proofs.Triples.{Triple, triple_reclaimed}
-use Rattle.live_updates.specs.Two.{HoldsTwo, LeadsTwo}
-use Rattle.live_updates.specs.Three.{HasThree}
-use Rattle.live_updates.proofs.Twos.{as_pair, held_on}
+use Rattle.live_growth.specs.Two.{HoldsTwo, LeadsTwo}
+use Rattle.live_growth.specs.Three.{HasThree}
+use Rattle.live_growth.proofs.Twos.{as_pair, held_on}
 
 abbrev Seen : Type 0
 Seen = SeatView View
@@ -47,7 +44,7 @@ module _ (v w : Seen) (b b' : Book) (words words_above : List Name) (free free_a
   }
 
 -- what the seat has to itself, and holds
-module _ {v : Seen} {b : Book} {words words_above others : List Name} {free free_above back spare : ℕ} {s : Position} {key : ℕ} (h : HasThree v b words words_above others free free_above back spare s key) where
+module _ {asks : NodeType → NodeType → Content → Type 0} {v : Seen} {b : Book} {words words_above others : List Name} {free free_above back spare : ℕ} {s : Position} {key : ℕ} (h : HasThree asks v b words words_above others free free_above back spare s key) where
   pub three_own : v.client.own ≡ detached h.reclaimed.spot ∷ locked h.lead.two.below h.lead.two.content ∷ locked h.lead.two.above h.lead.two.content_above ∷ []
   three_own = h.reclaimed.own ∙ ap (λ (os : List Own). detached h.reclaimed.spot ∷ os) h.lead.two.own
 
@@ -55,13 +52,6 @@ module _ {v : Seen} {b : Book} {words words_above others : List Name} {free free
   as_triple =
       let two = h.lead.two in
       triple_reclaimed h.before v b b others words words_above back free free_above spare h.reclaimed two.below two.above two.content two.content_above two.content two.content_above refl (as_pair two) two.own h.are
-
--- few children have room in the next smaller form
-pub few_fit : (f : NodeType) (c : Content) → f ≢ N4 → counted (limit f) c ≤ few_in f → counted (limit f) c ≤ most (limit (smaller_form f))
-few_fit N4 c some few = absurd (some refl)
-few_fit N16 c some few = omega (arith, few)
-few_fit N48 c some few = omega (arith, few)
-few_fit N256 c some few = omega (arith, few)
 
 -- The seat has nothing to itself any more, and knows as much as before.
 pub rest_grown : (v w z : Seen) → Alike v w → w.client.seen ≡ v.client.seen → HasRest w z → z.client.seen ≡ w.client.seen → HasGrown v z
@@ -73,7 +63,7 @@ rest_grown v w z alike seen rest last = record {
   seen = last ∙ seen;
 }
 
--- The same where it knows more.
+-- It knows more, and has nothing to itself.
 pub alike_grown : (v w z : Seen) → Alike v w → w.client.seen ≡ v.client.seen → HasGrown w z → HasGrown v z
 alike_grown v w z alike seen g = record {
   own = g.own;

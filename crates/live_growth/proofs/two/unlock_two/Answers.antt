@@ -6,9 +6,9 @@ use Rattle.live_law.specs.Tree.{StaysSame}
 use Rattle.live_law.proofs.Writes.{node_stays}
 use Rattle.live_reads.proofs.Views.{first_word}
 use Rattle.live_growth.proofs.Locks.{alike_then}
-use Rattle.live_updates.proofs.Twos.{first_frees, first_freed, held_on, alike_freed}
-use Rattle.live_updates.proofs.detach.unlock_two.Goals as goal
-use Rattle.live_updates.proofs.detach.unlock_two.Goals.{After-index-words-0, After-unlock}
+use Rattle.live_growth.proofs.Twos.{first_frees, first_freed, held_on, alike_freed}
+use Rattle.live_growth.proofs.two.unlock_two.Goals as goal
+use Rattle.live_growth.proofs.two.unlock_two.Goals.{After-index-words-0, After-unlock}
 
 abbrev Seen : Type 0
 Seen = SeatView View
