@@ -17,7 +17,7 @@
 //! No clause states that a look-up finds the owner of a ticket that is in the map, that the owner before is lent, that a refused
 //! owner is given back, or that `reclaim` finds one that nobody has lent. Tests do.
 //!
-//! Tested in `test_live_owners`.
+//! Tested in `test_live_words/maps`.
 #![tactic(auto)]
 
 mod drains;

@@ -4,7 +4,7 @@
 //! Each is a function over the current nodes. The call that it returns, and what it reports, are those of
 //! the event that `spec_olc` defines, in any state that shows these nodes.
 //!
-//! Tested in `congee_olc` and `tools/dev/try-schedules`.
+//! Tested in `test_olc` and `tools/dev/try-schedules`.
 #![tactic(auto)]
 
 pub mod looking;

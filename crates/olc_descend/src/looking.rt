@@ -1,6 +1,6 @@
 //! Read: the child under the key's byte of the current node, with one more share of a payload.
 //!
-//! Tested in `congee_olc` and `tools/dev/try-schedules`.
+//! Tested in `test_olc` and `tools/dev/try-schedules`.
 
 ghost use Rattle.std.specs.Prelude.{◌≡◌, ◌↔◌, IsTrue, Some, None, IsOk, IfOk, IfErr, IfSome, IfNone, length};
 ghost use Rattle.spec_map.specs.Map.{lookup};

@@ -1,6 +1,6 @@
 //! Take: the word of the root, or of the node that was read, which is remembered if it is free.
 //!
-//! Tested in `congee_olc` and `tools/dev/try-schedules`.
+//! Tested in `test_olc` and `tools/dev/try-schedules`.
 
 ghost use Rattle.std.specs.Prelude.{◌↔◌, IsTrue};
 ghost use Rattle.spec_node.specs.Key.{Begins};

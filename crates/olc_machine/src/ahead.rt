@@ -1,6 +1,6 @@
 //! The first pair from a key on: a path through the tree that takes no memory.
 //!
-//! Tested in `congee_olc/machine`, `test_olc` and `tools/dev/try-schedules`.
+//! Tested in `test_olc` and `tools/dev/try-schedules`.
 
 ghost use Rattle.std.specs.Prelude.{◌≡◌};
 ghost use Rattle.spec_node.specs.Key.{low};

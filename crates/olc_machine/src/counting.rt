@@ -1,6 +1,6 @@
 //! The statistics of a machine's tree: one walk over all reachable nodes, each counted on its level.
 //!
-//! Tested in `congee_olc/machine`, `test_olc` and `tools/dev/try-schedules`.
+//! Tested in `test_olc` and `tools/dev/try-schedules`.
 
 ghost use Rattle.std.specs.Prelude.{IfOk, OnOk, ◌≡◌, ◌-◌};
 ghost use Rattle.node_table.specs.Table.{IsSubtree};

@@ -1,6 +1,6 @@
 //! What a machine has inside, and the events of one call.
 //!
-//! Tested in `congee_olc/machine`, `test_olc` and `tools/dev/try-schedules`.
+//! Tested in `test_olc` and `tools/dev/try-schedules`.
 
 ghost use Rattle.std.specs.Prelude.{◌≡◌, ◌↔◌, ℕ, ◌+◌, ◌<◌, ◌^◌, true, false, Some, None, IsSome, IfSome, IfNone, IfOk, IsOk, OnOk, OnErr, IsTrue, option_copied, map};
 ghost use Rattle.spec_map.specs.Map.{Pairs, lookup};

@@ -1,6 +1,6 @@
 //! A machine of the tree's protocol: it makes one event of one call at a time, and can be read between events.
 //!
-//! Tested in `congee_olc/machine`, `test_olc` and `tools/dev/try-schedules`.
+//! Tested in `test_olc` and `tools/dev/try-schedules`.
 #![tactic(auto)]
 
 mod ahead;

@@ -1,6 +1,6 @@
 //! The keys of a machine's tree, ascending: one walk over all reachable nodes.
 //!
-//! Tested in `congee_olc/machine`, `test_olc` and `tools/dev/try-schedules`.
+//! Tested in `test_olc` and `tools/dev/try-schedules`.
 
 ghost use Rattle.std.specs.Prelude.{◌≡◌, ◌++◌, map, OnOk};
 ghost use Rattle.olc_state.specs.inner.Walks.{meant_nodes};

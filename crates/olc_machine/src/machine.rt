@@ -1,6 +1,6 @@
 //! The machine: nodes, calls in flight, pins and a budget.
 //!
-//! Tested in `congee_olc/machine`, `test_olc` and `tools/dev/try-schedules`.
+//! Tested in `test_olc` and `tools/dev/try-schedules`.
 
 ghost use Rattle.std.specs.Prelude.{◌≡◌, ◌↔◌, ◌+◌, ◌<◌, ◌^◌, ℕ, true, false, Some, None, IsSome, Err, IfOk, IsOk, OnErr, IsTrue, option_copied, length, map};
 ghost use Rattle.spec_map.specs.Map.{Pairs, lookup};

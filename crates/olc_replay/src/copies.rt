@@ -1,6 +1,6 @@
 //! Copies of what a schedule over numbers passes in, and of what it gets back.
 //!
-//! Tested in `congee_olc` and `tools/dev/try-schedules`.
+//! Tested in `test_olc` and `tools/dev/try-schedules`.
 
 ghost use Rattle.std.specs.Prelude.{◌≡◌, Option, Some, None, option_copied};
 ghost use Rattle.spec_olc.specs.Calls.{asked_of};

@@ -1,6 +1,6 @@
 //! Replay of a schedule on a fresh machine.
 //!
-//! Tested in `congee_olc` and `tools/dev/try-schedules`.
+//! Tested in `test_olc` and `tools/dev/try-schedules`.
 
 ghost use Rattle.std.specs.Prelude.{◌≡◌, ◌++◌, ℕ, IfOk, OnOk};
 ghost use Rattle.spec_olc.specs.Calls.{asked_of};

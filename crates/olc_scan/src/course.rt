@@ -1,6 +1,6 @@
 //! The keys of a node that a range looks at, and whether it has more pairs to return.
 //!
-//! Tested in `tools/dev/try-schedules` and `congee_olc/range_owners`.
+//! Tested in `tools/dev/try-schedules` and `test_olc/range_owners`.
 
 ghost use Rattle.std.specs.Prelude.{◌≡◌, ◌↔◌, ℕ, ◌+◌, ◌<◌, ◌≤◌, ◌^◌, IsTrue, [], ◌∷◌, ◌++◌, length};
 ghost use Rattle.spec_node.specs.Key.{high, low, next_byte};

@@ -3,7 +3,7 @@
 //! Each is a function over the current nodes. The call that it returns, and what it reports, are those of the event
 //! that `spec_olc` defines, in any state that shows these nodes.
 //!
-//! Tested in `tools/dev/try-schedules` and `congee_olc/range_owners`.
+//! Tested in `tools/dev/try-schedules` and `test_olc/range_owners`.
 #![tactic(auto)]
 
 pub mod course;

@@ -1,6 +1,6 @@
 //! Take, Read and Check of a range.
 //!
-//! Tested in `tools/dev/try-schedules` and `congee_olc/range_owners`.
+//! Tested in `tools/dev/try-schedules` and `test_olc/range_owners`.
 
 ghost use Rattle.std.specs.Prelude.{◌≡◌, ◌↔◌, ℕ, ◌+◌, ◌<◌, ◌≤◌, ◌^◌, max, List, IsTrue, [], ◌∷◌, ◌++◌, Some, None, IsSome, IfSome, IfNone, length};
 ghost use Rattle.spec_map.specs.Map.{between};

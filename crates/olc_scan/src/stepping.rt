@@ -1,6 +1,6 @@
 //! The next event of a range, by its stage.
 //!
-//! Tested in `tools/dev/try-schedules` and `congee_olc/range_owners`.
+//! Tested in `tools/dev/try-schedules` and `test_olc/range_owners`.
 
 ghost use Rattle.std.specs.Prelude.{◌≡◌, ◌≢◌};
 ghost use Rattle.spec_olc.specs.declared.types.Env.{Env};

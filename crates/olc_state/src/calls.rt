@@ -1,7 +1,7 @@
 //! The records of calls in flight, and the room reserved for later ones. All code that makes a place, fills it or
 //! removes it is here; an event changes a record where it is.
 //!
-//! Tested in `congee_olc` and `tools/dev/try-schedules`.
+//! Tested in `test_olc` and `tools/dev/try-schedules`.
 
 ghost use Rattle.std.specs.Prelude.{◌≡◌, Some, None, IsSome, IsOk, OnOk, OnErr, option_copied};
 ghost use Rattle.olc_words.specs.Epoch.{entry_at};

@@ -13,7 +13,7 @@
 //! cleanup, and the call ends with the reply that it has. If a first cleanup has taken a node away and left the parent
 //! with few children, a second one follows for the parent.
 //!
-//! Tested in `congee_olc` and `tools/dev/try-schedules`.
+//! Tested in `test_olc` and `tools/dev/try-schedules`.
 
 use crate::stage::{Path, Spot};
 use crate::tail::NodePair;

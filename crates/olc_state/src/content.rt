@@ -1,6 +1,6 @@
 //! The walk over all pairs of the tree, keys ascending.
 //!
-//! Tested in `congee_olc` and `tools/dev/try-schedules`.
+//! Tested in `test_olc` and `tools/dev/try-schedules`.
 
 ghost use Rattle.std.specs.Prelude.{◌≡◌, [], ◌∷◌, ◌++◌, length, IfOk, OnOk};
 ghost use Rattle.spec_node.specs.Key.{low};

@@ -3,7 +3,7 @@
 //! Only the crates that make the protocol's events are built on it. What a user of the machine sees is in
 //! `spec_olc`, and `specs/inner/Shown.antt` defines how it follows from the inside.
 //!
-//! Tested in `congee_olc` and `tools/dev/try-schedules`.
+//! Tested in `test_olc` and `tools/dev/try-schedules`.
 #![tactic(auto)]
 
 pub mod calls;

@@ -1,6 +1,6 @@
 //! How far a range is, and what it does next.
 //!
-//! Tested in `congee_olc` and `tools/dev/try-schedules`.
+//! Tested in `test_olc` and `tools/dev/try-schedules`.
 
 use crate::stage::Spot;
 

@@ -1,6 +1,6 @@
 //! A call in flight: what it does next, and what it remembers.
 //!
-//! Tested in `congee_olc` and `tools/dev/try-schedules`.
+//! Tested in `test_olc` and `tools/dev/try-schedules`.
 
 use crate::cleanup::{Cleanup, Seek, Tidy};
 use crate::scan::{RangeProgress, Scan};

@@ -1,6 +1,6 @@
 //! What an event leaves of its call, which is changed in place: it goes on, goes back to the root, or has no work left.
 //!
-//! Tested in `congee_olc` and `tools/dev/try-schedules`.
+//! Tested in `test_olc` and `tools/dev/try-schedules`.
 
 ghost use Rattle.std.specs.Prelude.{◌≡◌, ◌↔◌, IsTrue, Some, None, IsSome};
 ghost use Rattle.spec_olc.specs.Kinds.{report_of};

@@ -1,6 +1,6 @@
 //! The nodes in their slots, and the changes that events make there.
 //!
-//! Tested in `congee_olc` and `tools/dev/try-schedules`.
+//! Tested in `test_olc` and `tools/dev/try-schedules`.
 
 ghost use Rattle.std.specs.Prelude.{◌≡◌, ◌≢◌, ◌⊎◌, ◌+◌, ℕ, None, Some, IsSome, IfOk, OnErr, length};
 ghost use Rattle.slab.specs.Slab.{get};

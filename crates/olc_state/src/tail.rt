@@ -13,7 +13,7 @@
 //! After the last `Unlock` the call ends, or cleans up what its Write has left; where the second upgrade has failed, it
 //! goes back to the root.
 //!
-//! Tested in `congee_olc` and `tools/dev/try-schedules`.
+//! Tested in `test_olc` and `tools/dev/try-schedules`.
 
 use crate::cleanup::Cleanup;
 use crate::stage::{Path, Spot};

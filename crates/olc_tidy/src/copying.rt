@@ -1,6 +1,6 @@
 //! The Make of a cleanup: a copy of the node in the next smaller form.
 //!
-//! Tested in `tools/dev/try-schedules` and `congee_olc/cleanup_owners`.
+//! Tested in `tools/dev/try-schedules` and `test_olc/cleanup_owners`.
 
 ghost use Rattle.std.specs.Prelude.{◌≡◌, ◌≤◌, IfSome, IsTrue, Some, length, true};
 ghost use Rattle.node_base.specs.Form.{few_in, smaller_form};

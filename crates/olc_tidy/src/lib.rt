@@ -2,7 +2,7 @@
 //!
 //! The table in `olc_state::cleanup` lists which events follow one another.
 //!
-//! Tested in `tools/dev/try-schedules` and `congee_olc/cleanup_owners`.
+//! Tested in `tools/dev/try-schedules` and `test_olc/cleanup_owners`.
 #![tactic(auto)]
 
 mod copying;

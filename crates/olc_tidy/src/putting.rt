@@ -1,6 +1,6 @@
 //! The Writes of a cleanup, at the parent: the empty node is taken out, or the smaller copy takes the node's place.
 //!
-//! Tested in `tools/dev/try-schedules` and `congee_olc/cleanup_owners`.
+//! Tested in `tools/dev/try-schedules` and `test_olc/cleanup_owners`.
 
 ghost use Rattle.std.specs.Prelude.{◌≡◌, Some};
 ghost use Rattle.spec_olc.specs.declared.types.Env.{Env};

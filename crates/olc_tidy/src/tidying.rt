@@ -1,6 +1,6 @@
 //! The next event of a cleanup at its node.
 //!
-//! Tested in `tools/dev/try-schedules` and `congee_olc/cleanup_owners`.
+//! Tested in `tools/dev/try-schedules` and `test_olc/cleanup_owners`.
 
 ghost use Rattle.std.specs.Prelude.{◌≡◌};
 ghost use Rattle.spec_olc.specs.declared.types.Env.{Env};

@@ -1,6 +1,6 @@
 //! Upgrades of a cleanup: the parent is locked, then the node, and what is due is read off the node that is held.
 //!
-//! Tested in `tools/dev/try-schedules` and `congee_olc/cleanup_owners`.
+//! Tested in `tools/dev/try-schedules` and `test_olc/cleanup_owners`.
 
 ghost use Rattle.std.specs.Prelude.{◌≡◌};
 ghost use Rattle.spec_olc.specs.declared.types.Env.{Env};

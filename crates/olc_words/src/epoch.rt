@@ -4,7 +4,7 @@
 //! once every call in flight has a pin above n. The count saturates at `2^64 - 1`; nodes that are retired from then on
 //! are kept until the tree is dropped.
 //!
-//! Tested in `congee_olc/epoch` and `test_olc`.
+//! Tested in `test_olc`.
 
 ghost use Rattle.std.specs.Prelude.{◌≡◌, ℕ, ◌<◌, ◌≤◌, ◌⊎◌, ◌↔◌, true, false, IsTrue, Some, None, IsSome, IfSome, IfNone, IsOk, OnOk, OnErr, []};
 ghost use Rattle.olc_words.specs.Epoch.{is_seated, pin_of, life_of, ChangesSeat, ChangesLife, admitted, StartedAfter, AllStartedAfter, IsReclaimable};

@@ -1,6 +1,6 @@
 //! What calls of the protocol share: the lock word of a node, and the pins that keep retired nodes.
 //!
-//! Tested in `congee_olc`.
+//! Tested in `test_olc`.
 #![tactic(auto)]
 
 pub mod epoch;

@@ -1,7 +1,7 @@
 //! What is known of each slot, in a vector by slot: a slab gives freed slots out again before new ones, so slots are
 //! small and dense, and each is found in one step, where a map would be searched.
 //!
-//! Tested in `congee_olc`.
+//! Tested in `test_olc`.
 
 ghost use Rattle.std.specs.Prelude.{◌≡◌, ℕ, ◌<◌, Some, None, IsSome, OnOk, OnErr, length, []};
 ghost use Rattle.olc_words.specs.Epoch.{admitted, entry_at};

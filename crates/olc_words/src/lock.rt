@@ -3,7 +3,7 @@
 //! A word is `4 * version + 2 * locked + obsolete` (*The ART of Practical Synchronization*, Leis et al.). Locking adds
 //! 2, unlocking adds 2 more and so makes the next version, marking obsolete adds 1. A word never falls.
 //!
-//! Tested in `congee_olc/lock`.
+//! Tested in `test_olc/lock`.
 
 ghost use Rattle.std.specs.Prelude.{◌≡◌, ◌+◌, ◌<◌, ◌^◌, ◌↔◌, IsTrue, IfSome, IsSome};
 ghost use Rattle.spec_olc.specs.Lock.{version, last_version, IsLocked, IsObsolete, IsFree, MayUpgrade};

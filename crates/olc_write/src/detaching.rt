@@ -1,6 +1,6 @@
 //! The Write that takes a leaf out of the tree whose only payload is removed.
 //!
-//! Tested in `tools/dev/try-schedules` and `congee_olc/refusals`.
+//! Tested in `tools/dev/try-schedules` and `test_olc/refusals`.
 
 ghost use Rattle.std.specs.Prelude.{◌≡◌};
 ghost use Rattle.spec_olc.specs.declared.types.Env.{Env};

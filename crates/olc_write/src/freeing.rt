@@ -1,6 +1,6 @@
 //! Unlocks, and the end of a node that is no longer in the tree.
 //!
-//! Tested in `tools/dev/try-schedules` and `congee_olc/refusals`.
+//! Tested in `tools/dev/try-schedules` and `test_olc/refusals`.
 
 ghost use Rattle.std.specs.Prelude.{◌≡◌, ◌+◌, ◌↔◌, Some, IsTrue};
 ghost use Rattle.spec_olc.specs.declared.types.Env.{Env};

@@ -1,6 +1,6 @@
 //! What a Write by which a node loses a child leaves to clean up.
 //!
-//! Tested in `tools/dev/try-schedules` and `congee_olc/refusals`.
+//! Tested in `tools/dev/try-schedules` and `test_olc/refusals`.
 
 ghost use Rattle.std.specs.Prelude.{◌≡◌, true, false, Some, None, IsTrue};
 ghost use Rattle.olc_state.specs.inner.Meant.{meant_table};

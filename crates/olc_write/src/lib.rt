@@ -2,7 +2,7 @@
 //!
 //! The table in `olc_state::tail` lists which events follow one another in each case.
 //!
-//! Tested in `tools/dev/try-schedules` and `congee_olc/refusals`.
+//! Tested in `tools/dev/try-schedules` and `test_olc/refusals`.
 #![tactic(auto)]
 
 mod detaching;

@@ -1,6 +1,6 @@
 //! Writes at the call's node: a payload into a leaf, a new leaf below an inner node.
 //!
-//! Tested in `tools/dev/try-schedules` and `congee_olc/refusals`.
+//! Tested in `tools/dev/try-schedules` and `test_olc/refusals`.
 
 ghost use Rattle.std.specs.Prelude.{◌≡◌, ◌+◌, ◌≤◌, ◌^◌, IsTrue, Some, None, IsSome, length};
 ghost use Rattle.node_base.specs.Form.{Fits};

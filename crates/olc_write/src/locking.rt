@@ -1,6 +1,6 @@
 //! Upgrades: a call locks the node that it will change, and first the parent where that changes.
 //!
-//! Tested in `tools/dev/try-schedules` and `congee_olc/refusals`.
+//! Tested in `tools/dev/try-schedules` and `test_olc/refusals`.
 
 ghost use Rattle.std.specs.Prelude.{◌≡◌, ◌+◌, ◌↔◌, true, false, Some, IsTrue, IfSome, IsSome};
 ghost use Rattle.spec_olc.specs.declared.types.Env.{Env};

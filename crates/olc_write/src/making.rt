@@ -1,7 +1,7 @@
 //! Makes: private nodes, of which no other call knows. A refused Make frees all nodes that the call
 //! has made.
 //!
-//! Tested in `tools/dev/try-schedules` and `congee_olc/refusals`.
+//! Tested in `tools/dev/try-schedules` and `test_olc/refusals`.
 
 ghost use Rattle.std.specs.Prelude.{◌≡◌, ◌+◌, ◌≤◌, ◌↔◌, [], length, true};
 ghost use Rattle.std.specs.Prelude.{IfNone, IfSome, IsTrue, None, Some};

@@ -1,6 +1,6 @@
 //! Writes at the parent of the call's node: a larger copy in its place, or a node put between.
 //!
-//! Tested in `tools/dev/try-schedules` and `congee_olc/refusals`.
+//! Tested in `tools/dev/try-schedules` and `test_olc/refusals`.
 
 ghost use Rattle.std.specs.Prelude.{◌≡◌, ◌≤◌, ◌^◌, ℕ, ◌∷◌, Some};
 ghost use Rattle.spec_olc.specs.declared.types.Env.{Env};

@@ -1,6 +1,6 @@
 //! What a call stores: its own payload, or its closure's answer.
 //!
-//! Tested in `tools/dev/try-schedules` and `congee_olc/refusals`.
+//! Tested in `tools/dev/try-schedules` and `test_olc/refusals`.
 
 ghost use Rattle.std.specs.Prelude.{◌≡◌, IfSome, Some};
 ghost use Rattle.olc_state.specs.inner.Meant.{meant_task};

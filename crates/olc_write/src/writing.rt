@@ -1,6 +1,6 @@
 //! The next event of a call in its tail.
 //!
-//! Tested in `tools/dev/try-schedules` and `congee_olc/refusals`.
+//! Tested in `tools/dev/try-schedules` and `test_olc/refusals`.
 
 ghost use Rattle.std.specs.Prelude.{◌≡◌, ◌≤◌, ◌^◌};
 ghost use Rattle.spec_olc.specs.declared.types.Env.{Env};

@@ -8,7 +8,7 @@
 //!
 //! All words are one book, under one rule. Each function is a step on one word.
 //!
-//! Tested in `test_word_owners`.
+//! Tested in `test_live_words/tickets`.
 #![tactic(auto)]
 
 pub mod book;

@@ -14,7 +14,7 @@
 //! No clause states that `lend` finds an issued ticket, that `reclaim` finds one that nobody has lent, or that slots are used again.
 //! Tests do.
 //!
-//! Tested in `test_word_owners`.
+//! Tested in `test_live_words/tickets`.
 #![tactic(auto)]
 
 mod directory;
