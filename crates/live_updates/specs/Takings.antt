@@ -16,7 +16,7 @@ abbrev pub takings : ℕ → Pairs ℕ → List (Entry ℕ)
 takings caller [] = []
 takings caller (p ∷ ps) = began caller ∷ taken caller p ∷ takings caller ps
 
--- the same, but that no reader begins before the first removal
+-- removals of these pairs, where a reader begins before each but the first
 abbrev pub removals : ℕ → Pairs ℕ → List (Entry ℕ)
 removals caller [] = []
 removals caller (p ∷ ps) = taken caller p ∷ takings caller ps

@@ -1,7 +1,7 @@
 //! Removals of many pairs, leaf by leaf.
 //!
-//! The pairs of a leaf are removed at one moment. Each of them is popped: it is the first one behind the one before. So each key
-//! that is there throughout the call is removed. A key that another thread inserts meanwhile may stay.
+//! A leaf is locked once for all its pairs. By the contracts each pair is popped: it is the first one behind the one before. So each
+//! key that is there throughout the call is removed. A key that another thread inserts meanwhile may stay.
 //!
 //! Tested in `test_live_faces`.
 ghost use Rattle.std.specs.Prelude.{◌≡◌, ℕ, ◌+◌, ◌^◌};
