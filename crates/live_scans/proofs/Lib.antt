@@ -9,7 +9,6 @@ pub mod PathNodes
 pub mod Afters
 pub mod Leasts
 pub mod Firsts
-pub mod Behinds
 pub mod Counting
 pub mod Knowing
 pub mod Lists

@@ -6,15 +6,14 @@ use Rattle.spec_node.specs.declared.child.Child.TheVariants.{Payload, Node as Be
 use Rattle.word_book.specs.Book.{Book, Name}
 use Rattle.live_nodes.specs.Seats.{SeatView}
 use Rattle.live_layout.specs.Encodes.{IsBelow, payload_of}
-use Rattle.live_layout.specs.Order.{HasNearest}
+use Rattle.live_layout.specs.Order.{IsFrom, HasNearest}
 use Rattle.live_layout.specs.Page.{AreListed}
 use Rattle.live_law.specs.Levels.{up, digit, Covers, Shape, Spot}
 use Rattle.live_law.specs.Views.{View}
 use Rattle.live_law.specs.Tree.{IsOfKind}
 use Rattle.live_law.proofs.Plans.{bytes_above-key, joined, digit-low}
 use Rattle.live_reads.specs.Paths.{Names}
-use Rattle.live_reads.specs.Mismatches.{IsMismatched, IsAside}
-use Rattle.live_scans.specs.inner.Moments.{HasUnder, IsRead, HasNone, IsWithin, IsBeside, Reads}
+use Rattle.live_scans.specs.inner.Moments.{HasUnder, IsRead, HasNone, IsWithin, Reads}
 use Rattle.live_scans.specs.inner.Directions.{low_of, high_of}
 use Rattle.live_scans.proofs.Uppers.{up-rises}
 use Rattle.live_scans.proofs.Composed.{one_moment}
@@ -30,50 +29,14 @@ module _ (id : ℕ) (v w : Seen) (name key height : ℕ) (n : Names v name key h
   pub at_digit : (k : ℕ) → HasUnder v.client n.spot.number word x.pairs k (lookup x.node.its.children (digit n.spot.shape.height k)) → HasUnder v.client n.spot.number word x.pairs k (lookup x.node.its.children (digit height k))
   at_digit k h = subst (λ (z : ℕ). HasUnder v.client n.spot.number word x.pairs k (lookup x.node.its.children (digit z k))) n.high h
 
-  pub has_none_from : (byte b : ℕ) → byte ≡ digit height key → HasNearest true x.node.its.children byte None → HasNone id v w (IsWithin height key b)
-  has_none_from byte b is near = record {
+  pub has_none_from : (rising : Bool) → (byte b : ℕ) → byte ≡ digit height key → HasNearest rising x.node.its.children byte None → HasNone id v w (IsWithin rising height key b)
+  has_none_from rising byte b is near = record {
     fits = x.fits;
     pairs = x.pairs;
     legal = x.legal;
     none = λ k l.
-        let low = l.1 in
-        let none : lookup x.node.its.children (digit height k) ≡ None = near (digit height k) (omega (arith, is, low)) in
+        let none : lookup x.node.its.children (digit height k) ≡ None = near (digit height k) (subst (λ (z : ℕ). IsFrom rising z (digit height k)) (sym is) l.1) in
         subst (λ (o : Option (Child ℕ)). HasUnder v.client n.spot.number word x.pairs k o) none (at_digit k (x.under k (covers_like k l.0)));
-  }
-
--- BESIDE
-module _ (id : ℕ) (v w : Seen) (book : Book) (words : List Name) (t name key height at b : ℕ) (l : IsAside v book words t name key height at b) (x : IsRead id v.client l.mismatched.names.spot l.mismatched.names.spot.shape t l.mismatched.saw w.client) where
-  abbrev f : IsMismatched v book words t name key height
-  f = l.mismatched
-
-  not_covered : (k : ℕ) → up (at - 1) k ≢ 256 * up at key + b → Covers f.watch.spot.shape k → ⊥
-  not_covered k other covers = let lower = l.lower in other (sym (bytes_above-key f.watch.spot.shape (at - 1) k covers (omega (arith, lower))) ∙ l.byte_is)
-
-  under_node : (h k : ℕ) (o : Option (Child ℕ)) → 2 ≤ h → IsOfKind h o → IsBelow o (Some f.word) → up (at - 1) k ≢ 256 * up at key + b → HasUnder v.client f.names.spot.number t x.pairs k o → lookup x.pairs k ≡ None
-  under_node h k None high kind is other u = absurd is
-  under_node zero k (Some y) high kind is other u = absurd kind
-  under_node (suc zero) k (Some y) high kind is other u = absurd (omega (arith, high))
-  under_node (suc (suc h)) k (Some (Payload y)) high kind is other u = absurd kind
-  under_node (suc (suc h)) k (Some (Below s)) high kind is other u = u f.watch f.known f.above f.free_by (f.spells s is) (not_covered k other)
-
-  same_up : (k : ℕ) → 1 ≤ height → up (height - 1) k ≡ up (height - 1) key → up height k ≡ up height key
-  same_up k some e = subst (λ (z : ℕ). up z k ≡ up z key) (let s : suc (height - 1) ≡ height = omega (arith, some) in s) (ap (λ (z : ℕ). z / 256) e)
-
-  same_digit : (k : ℕ) → 1 ≤ height → up (height - 1) k ≡ up (height - 1) key → digit height k ≡ digit height key
-  same_digit k some e = subst (λ (z : ℕ). digit z k ≡ digit z key) (let s : suc (height - 1) ≡ height = omega (arith, some) in s) (ap (λ (z : ℕ). z % 256) e)
-
-  pub has_none_beside : 2 ≤ height → HasNone id v w (IsBeside height key at b)
-  has_none_beside some = record {
-    fits = x.fits;
-    pairs = x.pairs;
-    legal = x.legal;
-    none = λ k h.
-        let d : digit height key ≡ digit height k = sym (same_digit k (omega (arith, some)) h.0) in
-        let o : Option (Child ℕ) = lookup x.node.its.children (digit height k) in
-        let kind : IsOfKind height o = subst (λ (z : ℕ). IsOfKind z o) f.names.high (x.of_kind (digit height k) (digit-low height k)) in
-        let found = f.finds x.node.content x.node.its x.node.agrees x.node.encodes x.node.in_form in
-        under_node height k o some kind (subst (λ (z : ℕ). IsBelow (lookup x.node.its.children z) (Some f.word)) d found) h.1
-        (at_digit id v w name key height f.names t f.saw x k (x.under k (covers_like id v w name key height f.names t f.saw x k (same_up k (omega (arith, some)) h.0))));
   }
 
 -- A LEAF
@@ -114,18 +77,17 @@ part_reads true id v w a s base first last reached high_is covers word saw x ps 
 part_reads false id v w a s base first last reached high_is covers word saw x ps whole order high within listed = leaf_reads false id v w a s base first reached last high_is covers word saw x ps whole (omega (arith, order, high)) high listed
 
 -- RANGES of keys
-within : (h key last b k : ℕ) → b < 256 → up h last ≡ 256 * up (suc h) key + b → key ≤ k → k ≤ last → IsWithin (suc h) key b k
-within h key last b k low is from to =
+within : (rising : Bool) → (h key last b k : ℕ) → b < 256 → up h last ≡ 256 * up (suc h) key + b → IsFrom rising key k → IsFrom rising k last → IsWithin rising (suc h) key b k
+within true h key last b k low is from to =
     let x = up-rises h key k from in
     let y = up-rises h k last to in
     (omega (arith, x, y, is, low), omega (arith, x, y, is, low), omega (arith, x, y, is, low))
+within false h key last b k low is from to =
+    let x = up-rises h k key from in
+    let y = up-rises h last k to in
+    (omega (arith, x, y, is, low), omega (arith, x, y, is, low), omega (arith, x, y, is, low))
 
-pub is_within : (height key last b k : ℕ) → 1 ≤ height → b < 256 → up (height - 1) last ≡ 256 * up height key + b → key ≤ k → k ≤ last → IsWithin height key b k
-is_within height key last b k some low is from to =
+pub is_within : (rising : Bool) → (height key last b k : ℕ) → 1 ≤ height → b < 256 → up (height - 1) last ≡ 256 * up height key + b → IsFrom rising key k → IsFrom rising k last → IsWithin rising height key b k
+is_within rising height key last b k some low is from to =
     let e : suc (height - 1) ≡ height = omega (arith, some) in
-    subst (λ (z : ℕ). IsWithin z key b k) e (within (height - 1) key last b k low (subst (λ (z : ℕ). up (height - 1) last ≡ 256 * up z key + b) (sym e) is) from to)
-
-pub splits : (at k : ℕ) → 1 ≤ at → (up (at - 1) k ≡ 256 * up at k + digit at k) × (digit at k < 256)
-splits at k some =
-    let e : suc (at - 1) ≡ at = omega (arith, some) in
-    (subst (λ (z : ℕ). up (at - 1) k ≡ 256 * up z k + digit z k) e (sym (joined (at - 1) k (up (suc (at - 1)) k) refl)), digit-low at k)
+    subst (λ (z : ℕ). IsWithin rising z key b k) e (within rising (height - 1) key last b k low (subst (λ (z : ℕ). up (height - 1) last ≡ 256 * up z key + b) (sym e) is) from to)

@@ -1,26 +1,23 @@
 -- Steps of a reader, from an earlier view on, and its pages.
-use Rattle.std.proofs.Common.{◌≡◌, ◌≢◌, ◌⊎◌, ℕ, ◌+◌, ◌-◌, ◌%◌, ◌<◌, ◌≤◌, Bool, true, false, cond, List, [], ◌++◌, length, take, drop, reverse, Option, Some, None, refl, sym, ap, ◌∙◌, subst, inl, inr, arith}
+use Rattle.std.proofs.Common.{◌≡◌, ◌≢◌, ◌⊎◌, ℕ, ◌+◌, ◌-◌, ◌%◌, ◌<◌, ◌≤◌, Bool, true, false, cond, List, [], ◌++◌, length, take, drop, reverse, Option, Some, None, refl, sym, ap, ◌∙◌, subst, inl, inr, arith, append-nil, nat_eq}
 use mathlib.Core.Logic.{dite}
 use native.Mathlib.Decide.{ℕ_discrete}
 use Rattle.std.proofs.lemmas.List.{take-append-drop, take-take, reverse-append, length-drop, length-take-le, length-reverse}
 use Rattle.spec_map.specs.Map.{Pairs, Rises}
 use Rattle.spec_map.proofs.ByteMapLaws.{length-from_Rises}
-use Rattle.share_rule.specs.History.{Entry}
+use Rattle.share_rule.specs.History.{Entry, IsLegalHistory}
 use Rattle.word_book.specs.Book.{Book}
 use Rattle.live_nodes.specs.Seats.{SeatView}
 use Rattle.live_layout.specs.Order.{IsFrom}
-use Rattle.live_law.specs.Views.{View, Ask}
-use Rattle.live_reads.specs.Paths.{Ended, Keeps}
-use Rattle.live_reads.specs.Sees.{Follows}
-use Rattle.live_reads.specs.declared.prefix_match.Next.{Next}
-use Rattle.live_reads.specs.declared.prefix_match.Next.TheVariants as nexts
+use Rattle.live_law.specs.Views.{View}
+use Rattle.live_reads.specs.Paths.{Keeps}
 use Rattle.live_reads.proofs.Finds.{keeps_then}
 use Rattle.live_layout.proofs.PageLaws.{filled_none}
 use Rattle.live_scans.specs.Scans.{HasRead}
-use Rattle.live_scans.specs.inner.Directions.{low_of, high_of, EndsLeaf, IsNextKey, ascending}
-use Rattle.live_scans.specs.inner.Moments.{SeesMore, IsPassed, Reads}
+use Rattle.live_scans.specs.inner.Directions.{low_of, high_of, EndsLeaf, BeginsLeaf, IsNextKey, ascending}
+use Rattle.live_scans.specs.inner.Moments.{SeesMore, IsPassed, Reads, ReadsTo}
 use Rattle.live_scans.specs.inner.Steps.{IsStep}
-use Rattle.live_scans.proofs.Composed.{more_same, more_then, nothing_read, reads_since, reads_fewer, reads_then, reads_down_then}
+use Rattle.live_scans.proofs.Composed.{more_same, more_then, nothing_between, nothing_read, reads_since, reads_fewer, reads_then, reads_down_then}
 
 abbrev Seen : Type 0
 Seen = SeatView View
@@ -51,9 +48,55 @@ Stays b b₁ c c₁ u v = (b₁ ≡ b) × (c₁ ≡ c) × Keeps u v × SeesMore 
 pub stays_then : (b b₁ b₂ : Book) (c c₁ c₂ : ℕ) (u v w : Seen) → Stays b b₁ c c₁ u v → Stays b₁ b₂ c₁ c₂ v w → Stays b b₂ c c₂ u w
 stays_then b b₁ b₂ c c₁ c₂ u v w s t = (t.0 ∙ s.0, t.1 ∙ s.1, keeps_then u v w s.2 t.2, seen_since c₁ c u v w s.1 s.3 t.3)
 
--- what is next on the path of a reader, which isn't a look-up
-pub follow_ends : (look : Bool) (q : Ask) (v w : Seen) (key height : ℕ) (o : Option Next) → look ≡ false → Follows (Ended look q None) v w key height o → o ≡ Some nexts.Ends → w.client.seen ≡ v.client.seen
-follow_ends look q v w key height o is f e = subst (λ (b : Bool). Ended b q None v w) is (subst (λ (z : Option Next). Follows (Ended look q None) v w key height z) e f)
+-- KEYS from one on and before another, of which none was found
+abbrev pub HasPassedTo : Bool → Seen → Seen → ℕ → ℕ → Type 0
+HasPassedTo true u v key from = HasRead true u.client.seen v.client.seen key from []
+HasPassedTo false u v key from = HasRead false u.client.seen v.client.seen (from + 1) (key + 1) []
+
+pub passed_to : (up : Bool) (id : ℕ) (u v : Seen) (key from : ℕ) → ReadsTo up id u v key from → HasPassedTo up u v key from
+passed_to true id u v key from r = r.read
+passed_to false id u v key from r = r.read
+
+pub to_fits : (up : Bool) (id : ℕ) (u v : Seen) (key from : ℕ) → ReadsTo up id u v key from → SeesMore v.client.seen id u.client.seen
+to_fits true id u v key from r = r.fits
+to_fits false id u v key from r = r.fits
+
+pub nothing_passed : (up : Bool) (v w : Seen) (key : ℕ) → w.client.seen ≡ v.client.seen → HasPassedTo up v w key key
+nothing_passed true v w key same = subst (λ (h : History). HasRead true v.client.seen h key key []) (sym same) (nothing_read true v.client.seen key key (omega arith))
+nothing_passed false v w key same = subst (λ (h : History). HasRead false v.client.seen h (key + 1) (key + 1) []) (sym same) (nothing_read false v.client.seen (key + 1) (key + 1) (omega arith))
+
+pub begins_same : (up : Bool) (key : ℕ) → BeginsLeaf up key key
+begins_same true key = inr refl
+begins_same false key = inr refl
+
+pub reads_to_since : (up : Bool) (c id : ℕ) (u v w : Seen) (key to : ℕ) → c ≡ id → SeesMore v.client.seen id u.client.seen → ReadsTo up c v w key to → ReadsTo up id u w key to
+reads_to_since true c id u v w key to is seen r = reads_since true c id u v w key to [] is seen r
+reads_to_since false c id u v w key to is seen r = reads_since false c id u v w (to + 1) (key + 1) [] is seen r
+
+-- and the keys behind them
+pub reads_on : (up : Bool) (c id : ℕ) (u v w : Seen) (key from last : ℕ) (ps : Pairs ℕ) → c ≡ id → SeesMore v.client.seen id u.client.seen → HasPassedTo up u v key from → IsFrom up key from → IsFrom up from last → BeginsLeaf up key from → Reads up c v w (low_of up from last) (high_of up from last) ps → Reads up id u w (low_of up key last) (high_of up key last) ps
+reads_on true c id u v w key from last ps is seen read order on seam r = reads_then c id u v w key from (last + 1) [] ps is seen read r order (omega (arith, on)) seam
+reads_on false c id u v w key from last ps is seen read order on seam r = subst (Reads false id u w last (key + 1)) (append-nil ps) (reads_down_then c id u v w last (from + 1) (key + 1) ps [] is seen read r (omega (arith, on)) (omega (arith, order)) seam)
+
+pub reads_to_on : (up : Bool) (c id : ℕ) (u v w : Seen) (key from to : ℕ) → c ≡ id → SeesMore v.client.seen id u.client.seen → HasPassedTo up u v key from → IsFrom up key from → IsFrom up from to → BeginsLeaf up key from → ReadsTo up c v w from to → HasPassedTo up u w key to
+reads_to_on true c id u v w key from to is seen read order on seam r = (reads_then c id u v w key from to [] [] is seen read r order on seam).read
+reads_to_on false c id u v w key from to is seen read order on seam r = (reads_down_then c id u v w (to + 1) (from + 1) (key + 1) [] [] is seen read r (omega (arith, on)) (omega (arith, order)) seam).read
+
+-- keys behind a leaf, of which none was found
+abbrev pub ReadsBehind : Bool → ℕ → Seen → Seen → ℕ → ℕ → Type 0
+ReadsBehind true c v w last to = Reads true c v w (last + 1) (to + 1) []
+ReadsBehind false c v w last to = Reads false c v w to last []
+
+pub rest_reads : (up : Bool) (c id : ℕ) (u v w : Seen) (key last to : ℕ) (ps : Pairs ℕ) → c ≡ id → SeesMore v.client.seen id u.client.seen → Reads up id u v (low_of up key last) (high_of up key last) ps → ReadsBehind up c v w last to → IsFrom up key last → IsFrom up last to → EndsLeaf up last → Reads up id u w (low_of up key to) (high_of up key to) ps
+rest_reads true c id u v w key last to ps is seen read rest order on whole =
+    subst (Reads true id u w key (to + 1)) (append-nil ps) (reads_then c id u v w key (last + 1) (to + 1) ps [] is seen read.read rest (omega (arith, order)) (omega (arith, on)) (inl whole))
+rest_reads false c id u v w key last to ps is seen read rest order on whole =
+    reads_down_then c id u v w to last (key + 1) [] ps is seen read.read rest on (omega (arith, order)) (inl whole)
+
+-- no more keys
+pub none_more : (up : Bool) (c : ℕ) (v w : Seen) (last : ℕ) → IsLegalHistory nat_eq v.client.seen → SeesMore w.client.seen c v.client.seen → ReadsBehind up c v w last last
+none_more true c v w last legal seen = record { fits = seen; legal = seen.legal legal; read = nothing_between true v.client.seen w.client.seen (last + 1) (last + 1) (omega arith) }
+none_more false c v w last legal seen = record { fits = seen; legal = seen.legal legal; read = nothing_between false v.client.seen w.client.seen last last (omega arith) }
 
 -- THE STEPS OF A PAGE
 -- no pair yet
@@ -66,12 +109,12 @@ reads_nearer : (up : Bool) (id : ℕ) (u w : Seen) (key last to : ℕ) → IsFro
 reads_nearer true id u w key last to near r = reads_fewer true id u w key (last + 1) key (to + 1) [] r (omega arith) (omega (arith, near)) tt
 reads_nearer false id u w key last to near r = reads_fewer false id u w last (key + 1) to (key + 1) [] r near (omega arith) tt
 
-between : (up : Bool) (key last limit to : ℕ) → IsFrom up key last → IsFrom up key limit → (to ≡ last) ⊎ (to ≡ limit) → IsFrom up key to
-between up key last limit to from order is = elim is [ inl e ↦ subst (IsFrom up key) (sym e) from | inr e ↦ subst (IsFrom up key) (sym e) order ]
+pub nearest_from : (up : Bool) (key last limit to : ℕ) → IsFrom up key last → IsFrom up key limit → (to ≡ last) ⊎ (to ≡ limit) → IsFrom up key to
+nearest_from up key last limit to from order is = elim is [ inl e ↦ subst (IsFrom up key) (sym e) from | inr e ↦ subst (IsFrom up key) (sym e) order ]
 
 pub gap_step : (up : Bool) (id : ℕ) (u w : Seen) (key limit start last to : ℕ) (buffer : List (ℕ × ℕ)) → IsPassed up id u w key last → IsFrom up key limit → IsFrom up to last → IsFrom up to limit → (to ≡ last) ⊎ (to ≡ limit) → start < length buffer → IsStep up id u w key limit start buffer start to
 gap_step up id u w key limit start last to buffer p order near within is room = record {
-  order = between up key last limit to p.order order is;
+  order = nearest_from up key last limit to p.order order is;
   within = within;
   from = omega arith;
   few = omega (arith, room);
@@ -79,6 +122,15 @@ gap_step up id u w key limit start last to buffer p order near within is room = 
   seam = λ left ne. elim is [ inl e ↦ subst (EndsLeaf up) (sym e) p.seam | inr e ↦ absurd (ne e) ];
   reads = subst (Reads up id u w (low_of up key to) (high_of up key to)) (none_filled up buffer start (omega (arith, room))) (reads_nearer up id u w key last to near p.reads);
 }
+
+pub from_same : (up : Bool) (a : ℕ) → IsFrom up a a
+from_same true a = omega arith
+from_same false a = omega arith
+
+-- the last key of a leaf
+pub leaf_ends : (up : Bool) (base reached : ℕ) → base % 256 ≡ 0 → reached ≡ cond up 255 0 → EndsLeaf up (base + reached)
+leaf_ends true base reached whole e = omega (arith, whole, e)
+leaf_ends false base reached whole e = omega (arith, whole, e)
 
 -- the last key of a part
 ends : (up : Bool) (base first last : ℕ) → base % 256 ≡ 0 → cond up last first ≡ cond up 255 0 → EndsLeaf up (base + cond up last first)
@@ -146,11 +198,6 @@ step_since up c id u v w key limit start count last buffer is seen s = record {
 abbrev pub HasReadTo : Bool → History → History → ℕ → ℕ → Pairs ℕ → Type 0
 HasReadTo true old new key from pairs = HasRead true old new key from pairs
 HasReadTo false old new key from pairs = HasRead false old new (from + 1) (key + 1) (reverse pairs)
-
--- a leaf begins with it, or no key was read yet
-abbrev pub BeginsLeaf : Bool → ℕ → ℕ → Type 0
-BeginsLeaf true key from = (from % 256 ≡ 0) ⊎ (key ≡ from)
-BeginsLeaf false key from = ((from + 1) % 256 ≡ 0) ⊎ (from + 1 ≡ key + 1)
 
 pub page_begins : (up : Bool) (h : History) (key : ℕ) (buffer : List (ℕ × ℕ)) → HasReadTo up h h key key (take 0 buffer) × BeginsLeaf up key key × IsFrom up key key
 page_begins true h key buffer = (nothing_read true h key key (omega arith), inr refl, omega arith)

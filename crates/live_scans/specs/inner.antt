@@ -4,5 +4,4 @@ pub mod Steps
 pub mod Stops
 pub mod Nexts
 pub mod Afters
-pub mod Gaps
 pub mod Fills

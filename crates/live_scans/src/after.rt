@@ -107,20 +107,24 @@ fn first_place<S, R: ReadWords<S>>(
     best
 }
 
-/// The first child from a byte on of a node of this form: its byte and its word.
+/// The first child from a byte on, upwards (`true`) or downwards, of a node of this form: its byte and its word.
 #[inline(always)]
 pub fn child_after<S, R: ReadWords<S>>(
     cells: &R,
     form: NodeType,
+    up: bool,
     from: u8,
     seat: &mut S,
 ) -> Option<(u8, u64)>
     requires cells { R.may_read cells.now seat.old × (R.long cells.now ≡ words_of form) }
     ensures seat { Stays R.may_read R.rest cells.now seat.old seat.new }
     ensures is { (c : List ℕ) (n : TableNode ℕ) → R.agrees cells.now seat.new c → Encodes c n
-        → n.form ≡ form → HasNearest true n.children from result }
+        → n.form ≡ form → HasNearest up n.children from result }
     ensures kept { (c : List ℕ) → R.agrees cells.now seat.new c → R.agrees cells.now seat.old c }
 {
+    if !up {
+        return nearest(cells, form, false, from, seat);
+    }
     match room_of(form) {
         None => nearest(cells, form, true, from, seat),
         Some(room) => list_after(cells, form, room, from, seat),

@@ -1,13 +1,14 @@
 //! The pairs of a leaf, and the keys behind it that aren't there, in one visit of the node above.
-ghost use Rattle.std.specs.Prelude.{◌≡◌, ◌<◌, ◌≤◌, true, length, take, Some, IfSome, IsTrue};
+ghost use Rattle.std.specs.Prelude.{◌≡◌, ◌<◌, ◌≤◌, length, take, Some, IfSome, IsTrue};
+ghost use Rattle.live_layout.specs.Order.{IsFrom};
 ghost use Rattle.live_layout.specs.Page.{pairs_of};
 ghost use Rattle.live_reads.specs.Paths.{Keeps};
 ghost use Rattle.live_scans.specs.inner.Moments.{SeesMore, HasNone};
 ghost use Rattle.live_scans.specs.inner.Nexts.{IsNext, IsLower, IsOutside, second_number};
 ghost use Rattle.live_scans.specs.inner.Steps.{IsStep};
 
-use crate::bound::{Bound, Request, Step, part_of};
-use crate::keys::last_of;
+use crate::bound::{Request, Step, nearer, part_of};
+use crate::keys::{end_byte, end_of, ends_leaf};
 use crate::leaf::read_leaf;
 use crate::next::{Lower, is_still};
 use crate::position::Position;
@@ -23,19 +24,21 @@ fn watch_again<N: Above>(
     at: Position,
     child: (u8, u64),
     lower: Lower<'_>,
+    up: bool,
     seat: &mut Seat,
 ) -> bool
     requires height { (2 ≤ at.height) × (at.height ≤ 8) }
-    requires lower { IsLower seat.old.view seat.old.book here.words.now here.taken at child
+    requires lower { IsLower up seat.old.view seat.old.book here.words.now here.taken at child
         lower.node lower.here.words.now lower.here.taken }
     requires above { (N.number ≡ second_number seat.old.view.reads) × (N.word ≡ Some here.taken) }
     ensures book { seat.new.book ≡ seat.old.book }
     ensures id { seat.new.id ≡ seat.old.id }
     ensures keeps { Keeps seat.old.view seat.new.view }
     ensures seen { seat.new.view.client.seen ≡ seat.old.view.client.seen }
-    ensures next { IsTrue result → IsNext seat.new.view seat.new.book here.entry.words.now here.entry.taken
+    ensures next { IsTrue result → IsNext up seat.new.view seat.new.book here.entry.words.now here.entry.taken
         at child lower.entry.node lower.entry.here.words.now lower.entry.here.taken }
 {
+    let _ = up;
     let Opened { words, taken } = lower.here;
     node::check::<MapView, MapLaw, Below<N>>(&words[0], taken, seat)
 }
@@ -47,23 +50,24 @@ fn has_no_other<A: Asks>(
     at: Position,
     child: (u8, u64),
     lower: Lower<'_>,
+    up: bool,
     seat: &mut Seat,
 ) -> bool
     requires asks { A.ask.caller ≡ seat.old.id }
     requires height { (2 ≤ at.height) × (at.height ≤ 8) }
-    requires lower { IsLower seat.old.view seat.old.book here.words.now here.taken at child
+    requires lower { IsLower up seat.old.view seat.old.book here.words.now here.taken at child
         lower.node lower.here.words.now lower.here.taken }
     ensures book { seat.new.book ≡ seat.old.book }
     ensures id { seat.new.id ≡ seat.old.id }
     ensures keeps { Keeps seat.old.view seat.new.view }
     ensures seen { SeesMore seat.new.view.client.seen seat.old.id seat.old.view.client.seen }
     ensures none { IsTrue result → HasNone seat.old.id seat.old.view seat.new.view
-        (IsOutside at child.0 lower.entry.node) }
+        (IsOutside up at child.0 lower.entry.node) }
 {
-    if !watch_again::<Brand>(here, at, child, lower, seat) {
+    if !watch_again::<Brand>(here, at, child, lower, up, seat) {
         return false;
     }
-    is_still::<A>(here, at, child.0, child.1, lower, seat)
+    is_still::<A>(here, at, child, lower, up, seat)
 }
 
 /// Writes the pairs of a leaf into the buffer, and passes the keys behind it that begin with the same byte, if no writer came in
@@ -79,10 +83,11 @@ pub fn read_beside<A: Asks, P: RangeEntry>(
 ) -> Option<Step>
     requires asks { A.ask.caller ≡ seat.old.id }
     requires height { (2 ≤ at.height) × (at.height ≤ 8) }
-    requires lower { IsLower seat.old.view seat.old.book here.words.now here.taken at child
+    requires lower { IsLower request.bound.up seat.old.view seat.old.book here.words.now here.taken at child
         lower.node lower.here.words.now lower.here.taken }
     requires leaf { lower.node.height ≡ 1 }
-    requires order { (at.key ≤ lower.node.key) × (lower.node.key ≤ request.limit) }
+    requires order { IsFrom request.bound.up at.key lower.node.key }
+    requires within { IsFrom request.bound.up lower.node.key request.bound.limit }
     requires start { request.start < length buffer.old }
     ensures before { take request.start (pairs_of P.pair buffer.new)
         ≡ take request.start (pairs_of P.pair buffer.old) }
@@ -90,32 +95,29 @@ pub fn read_beside<A: Asks, P: RangeEntry>(
     ensures id { seat.new.id ≡ seat.old.id }
     ensures keeps { Keeps seat.old.view seat.new.view }
     ensures seen { SeesMore seat.new.view.client.seen seat.old.id seat.old.view.client.seen }
-    ensures step { IfSome result (λ s. IsStep true seat.old.id seat.old.view seat.new.view
-        lower.entry.node.key request.limit request.start (pairs_of P.pair buffer.new) s.count s.last) }
+    ensures step { IfSome result (λ s. IsStep request.bound.up seat.old.id seat.old.view seat.new.view
+        lower.entry.node.key request.bound.limit request.start (pairs_of P.pair buffer.new) s.count s.last) }
 {
-    let bound = Bound {
-        up: true,
-        limit: request.limit,
-    };
+    let bound = request.bound;
     let part = part_of(lower.node.key, bound);
     let name = lower.node.name;
-    let filled = read_leaf::<A, P>(lower.here, name, true, part, buffer, request.start, seat)?;
+    let filled = read_leaf::<A, P>(lower.here, name, bound.up, part, buffer, request.start, seat)?;
     let step = Step {
         count: filled.count,
         last: part.base + filled.reached as u64,
     };
-    let to = last_of(at.key, at.height, child.0);
-    if filled.count == buffer.len() || filled.reached != 255 {
+    if filled.count == buffer.len() || filled.reached != end_byte(bound.up) {
         return Some(step);
     }
-    if to <= step.last || to % 256 != 255 {
+    let to = end_of(at.key, at.height, child.0, bound.up);
+    if !ends_leaf(step.last, to, bound.up) {
         return Some(step);
     }
-    if !has_no_other::<A>(here, at, child, lower, seat) {
+    if !has_no_other::<A>(here, at, child, lower, bound.up, seat) {
         return Some(step);
     }
     Some(Step {
         count: filled.count,
-        last: to.min(request.limit),
+        last: nearer(to, bound),
     })
 }

@@ -1,6 +1,6 @@
 //! How far a reader goes, and where it has come to.
-ghost use Rattle.std.specs.Prelude.{◌≡◌, ◌≢◌, ◌⊎◌, ◌+◌, ◌%◌, ◌^◌, ◌<◌, ◌≤◌, cond};
-ghost use Rattle.live_layout.specs.Order.{IsFrom};
+ghost use Rattle.std.specs.Prelude.{◌≡◌, ◌≢◌, ◌⊎◌, ◌+◌, ◌%◌, ◌^◌, ◌<◌, ◌≤◌, cond, IsTrue, IsFalse};
+ghost use Rattle.live_layout.specs.Order.{IsFrom, IsBefore};
 ghost use Rattle.live_scans.specs.inner.Directions.{IsNextKey};
 
 use live_layout::page::Part;
@@ -12,10 +12,10 @@ pub struct Bound {
     pub limit: u64,
 }
 
-/// The last key that a reader upwards may read, and the place in its buffer from which on it writes pairs.
+/// How far a reader goes, and the place in its buffer from which on it writes pairs.
 #[derive(Clone, Copy, Debug, PartialEq, Eq)]
 pub struct Request {
-    pub limit: u64,
+    pub bound: Bound,
     pub start: usize,
 }
 
@@ -62,6 +62,17 @@ pub fn nearer(last: u64, bound: Bound) -> u64
         return last.min(bound.limit);
     }
     last.max(bound.limit)
+}
+
+/// Whether a key is behind the limit.
+pub fn is_beyond(key: u64, bound: Bound) -> bool
+    ensures yes { IsTrue result → IsBefore bound.up bound.limit key }
+    ensures no { IsFalse result → IsFrom bound.up key bound.limit }
+{
+    if bound.up {
+        return key > bound.limit;
+    }
+    key < bound.limit
 }
 
 /// The key after one that isn't the limit.

@@ -9,7 +9,7 @@ ghost use Rattle.live_scans.specs.inner.Steps.{Counts};
 
 pub mod laws;
 
-use crate::bound::{Bound, key_after};
+use crate::bound::{Bound, Request, key_after};
 use crate::page::{Onward, read_on};
 use crate::position::{PathNode, Position, Trail};
 use crate::scans::ceiling;
@@ -45,7 +45,8 @@ fn count_all(nodes: &Nodes, position: Position, seat: &mut Seat) -> Option<u128>
     loop {
         let last = LastLeaf::none();
         let onward = Onward { trail: at, last };
-        let stepped = read_on(nodes, onward, from, bound, &mut leaf, 0, seat)?;
+        let request = Request { bound, start: 0 };
+        let stepped = read_on(nodes, onward, from, request, &mut leaf, seat)?;
         let step = stepped.step;
         count += step.count as u128;
         if step.last == bound.limit {

@@ -36,18 +36,17 @@ pub fn range_descending<P: RangeEntry>(
         begin_only(map, guard)?;
         return Ok(0);
     }
-    let Some(position) = start(&map.nodes, last, &mut guard.seat) else {
+    let Some(root) = start(&map.nodes, last, &mut guard.seat) else {
         return Err(Busy);
     };
     let bound = Bound {
         up: false,
         limit: first,
     };
-    let leaf = guard.room.last;
     let Some(step) = page(
         &map.nodes,
-        position,
-        leaf,
+        root,
+        &mut guard.room.last,
         last,
         bound,
         buffer,

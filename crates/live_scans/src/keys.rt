@@ -1,6 +1,8 @@
 //! Keys as numbers: the first and the last one with given upper bytes.
-ghost use Rattle.std.specs.Prelude.{◌≡◌, ◌+◌, ◌-◌, ◌*◌, ◌^◌, ◌<◌, ◌≤◌};
+ghost use Rattle.std.specs.Prelude.{◌≡◌, ◌+◌, ◌-◌, ◌*◌, ◌^◌, ◌<◌, ◌≤◌, cond, IsTrue};
+ghost use Rattle.live_layout.specs.Order.{IsFrom};
 ghost use Rattle.live_law.specs.Levels.{up};
+ghost use Rattle.live_scans.specs.inner.Directions.{EndsLeaf, IsNextKey};
 
 /// How many keys a node of this height has.
 pub fn span(height: usize) -> u64
@@ -48,6 +50,45 @@ pub fn first_of(key: u64, height: usize, byte: u8) -> u64
 {
     let begin = 256 * upper(key, height) + byte as u64;
     begin * span(height - 1)
+}
+
+/// The last key in that direction, upwards (`true`) or downwards, that begins like this one down to a height, and has that byte there.
+pub fn end_of(key: u64, height: usize, byte: u8, rising: bool) -> u64
+    requires { (1 ≤ height) × (height ≤ 8) }
+    ensures { up (height - 1) result ≡ 256 * up height key + byte }
+{
+    if rising {
+        return last_of(key, height, byte);
+    }
+    first_of(key, height, byte)
+}
+
+/// The last byte in that direction.
+pub fn end_byte(rising: bool) -> u8
+    ensures { result ≡ cond rising 255 0 }
+{
+    if rising { 255 } else { 0 }
+}
+
+/// Whether a key isn't before another one in that direction, and is the last of a leaf.
+pub fn ends_leaf(key: u64, last: u64, rising: bool) -> bool
+    ensures { IsTrue result → IsFrom rising key last × EndsLeaf rising last }
+{
+    if rising {
+        return last >= key && last % 256 == 255;
+    }
+    last <= key && last % 256 == 0
+}
+
+/// The key before one that is behind another, in that direction.
+pub fn key_before(key: u64, rising: bool) -> u64
+    requires some { cond rising (1 ≤ key) (key + 1 < 2 ^ 64) }
+    ensures { IsNextKey rising result key }
+{
+    if rising {
+        return key - 1;
+    }
+    key + 1
 }
 
 /// The first key of a node with this head.

@@ -1,21 +1,24 @@
 //! Pages of a range, leaf by leaf, upwards or downwards.
-ghost use Rattle.std.specs.Prelude.{◌≡◌, ◌<◌, ◌≤◌, true, false, length, take, IfSome};
+ghost use Rattle.std.specs.Prelude.{◌≡◌, ◌<◌, length, take, IfSome};
 ghost use Rattle.live_layout.specs.Order.{IsFrom};
 ghost use Rattle.live_layout.specs.Page.{pairs_of};
+ghost use Rattle.live_nodes.specs.Seats.{SeatView};
+ghost use Rattle.live_law.specs.Views.{View};
 ghost use Rattle.live_reads.specs.Paths.{KnowsRootWord, Keeps};
 ghost use Rattle.live_reads.specs.Positions.{KnowsLast};
 ghost use Rattle.live_scans.specs.inner.Moments.{SeesMore};
 ghost use Rattle.live_scans.specs.inner.Steps.{IsStep, IsPage};
-ghost use Rattle.live_scans.specs.inner.Stops.{IsPosition, IsTrail};
+ghost use Rattle.live_scans.specs.inner.Stops.{IsPosition, IsTrail, IsLeafAt};
 
 use crate::bound::{Bound, Request, Step, key_after, nearer, part_of};
 use crate::leaf::leaf_page;
 use crate::next::{Visit, visit_node};
-use crate::position::{PathNode, Position, Trail, know};
-use crate::seek::{Reach, begin, seek_down};
+use crate::position::{PathNode, Position, Trail, know, open_known};
+use crate::seek::begin;
 use live_growth::map::TRIES;
 use live_law::law::Asks;
 use live_layout::page::RangeEntry;
+use live_reads::descend;
 use live_reads::last_leaf::LastLeaf;
 use live_reads::path::{Nodes, Seat};
 use std::marker::Brand;
@@ -27,16 +30,17 @@ pub struct Onward<'a> {
     pub last: LastLeaf,
 }
 
-/// A step, and the nodes above where it has come to.
+/// A step, the nodes above where it has come to, and the leaf that it has read, if the guard hasn't come to that last.
 #[derive(Clone, Copy)]
 pub struct Stepped<'a> {
     pub step: Step,
     pub trail: Trail<'a>,
+    pub leaf: Option<Position>,
 }
 
-// One step upwards from a node on: a leaf is written into the buffer, or keys are passed that are absent. `None` where a writer came
+// One step from a node on: a part of a leaf is written into the buffer, or keys are passed that are absent. `None` where a writer came
 // in between.
-fn step_up<'a, A: Asks, P: RangeEntry>(
+fn step_from<'a, A: Asks, P: RangeEntry>(
     nodes: &'a Nodes,
     trail: Trail<'a>,
     request: Request,
@@ -46,7 +50,7 @@ fn step_up<'a, A: Asks, P: RangeEntry>(
     requires book { seat.old.book ≡ nodes.now }
     requires asks { A.ask.caller ≡ seat.old.id }
     requires trail { IsTrail seat.old.view seat.old.book trail }
-    requires order { trail.low.at.key ≤ request.limit }
+    requires order { IsFrom request.bound.up trail.low.at.key request.bound.limit }
     requires start { request.start < length buffer.old }
     ensures before { take request.start (pairs_of P.pair buffer.new)
         ≡ take request.start (pairs_of P.pair buffer.old) }
@@ -55,91 +59,47 @@ fn step_up<'a, A: Asks, P: RangeEntry>(
     ensures keeps { Keeps seat.old.view seat.new.view }
     ensures seen { SeesMore seat.new.view.client.seen seat.old.id seat.old.view.client.seen }
     ensures trail { IfSome result (λ s. IsTrail seat.new.view seat.new.book s.trail) }
-    ensures step { IfSome result (λ s. IsStep true seat.old.id seat.old.view seat.new.view
-        trail.entry.low.at.key request.limit request.start (pairs_of P.pair buffer.new) s.step.count s.step.last) }
+    ensures leaf { IfSome result (λ s. IfSome s.leaf (IsLeafAt seat.new.view)) }
+    ensures step { IfSome result (λ s. IsStep request.bound.up seat.old.id seat.old.view seat.new.view
+        trail.entry.low.at.key request.bound.limit request.start (pairs_of P.pair buffer.new) s.step.count s.step.last) }
 {
-    let mut at = trail;
+    let known = know(nodes, trail.low, seat)?;
+    let mut here = open_known(trail.low.at, known, seat)?;
+    let low = PathNode {
+        at: trail.low.at,
+        known: Some(known),
+    };
+    let mut at = Trail {
+        low,
+        high: trail.high,
+    };
     loop {
-        let known = know(nodes, at.low, seat)?;
-        let low = PathNode {
-            at: at.low.at,
-            known: Some(known),
-        };
-        let trail = Trail { low, high: at.high };
-        match visit_node::<A, P>(nodes, low.at, known, request, buffer, seat)? {
+        match visit_node::<A, P>(nodes, at.low.at, here, request, buffer, seat)? {
             Visit::Past(last) => {
                 return Some(Stepped {
                     step: Step {
                         count: request.start,
-                        last: last.min(request.limit),
+                        last: nearer(last, request.bound),
                     },
-                    trail,
+                    trail: at,
+                    leaf: None,
                 });
             }
-            Visit::Read(step) => return Some(Stepped { step, trail }),
-            Visit::Goes(node) => {
-                at = Trail {
-                    low: PathNode {
-                        at: node,
-                        known: None,
-                    },
-                    high: low,
-                };
+            Visit::Read(step, leaf) => {
+                return Some(Stepped {
+                    step,
+                    trail: at,
+                    leaf: Some(leaf),
+                });
             }
-        }
-    }
-}
-
-// One step downwards from a node on, by the position's key: a part of a leaf is written into the buffer, or keys are passed that are
-// absent. `None` where a writer came in between.
-fn step_down<'a, A: Asks, P: RangeEntry>(
-    nodes: &'a Nodes,
-    at: Position,
-    limit: u64,
-    buffer: &mut [P],
-    start: usize,
-    seat: &mut Seat,
-) -> Option<Stepped<'a>>
-    requires book { seat.old.book ≡ nodes.now }
-    requires asks { (A.ask.key ≡ at.key) × (A.ask.caller ≡ seat.old.id) × (A.reads ≡ false) }
-    requires position { IsPosition seat.old.view at }
-    requires order { limit ≤ at.key }
-    requires start { start < length buffer.old }
-    ensures before { take start (pairs_of P.pair buffer.new)
-        ≡ take start (pairs_of P.pair buffer.old) }
-    ensures book { seat.new.book ≡ seat.old.book }
-    ensures id { seat.new.id ≡ seat.old.id }
-    ensures keeps { Keeps seat.old.view seat.new.view }
-    ensures seen { SeesMore seat.new.view.client.seen seat.old.id seat.old.view.client.seen }
-    ensures trail { IfSome result (λ s. IsTrail seat.new.view seat.new.book s.trail) }
-    ensures step { IfSome result (λ s. IsStep false seat.old.id seat.old.view seat.new.view
-        at.key limit start (pairs_of P.pair buffer.new) s.step.count s.step.last) }
-{
-    let bound = Bound { up: false, limit };
-    let sought = seek_down::<A>(nodes, at, seat)?;
-    let low = PathNode {
-        at: sought.position,
-        known: None,
-    };
-    let trail = Trail { low, high: low };
-    match sought.reach {
-        Reach::Past(last) => Some(Stepped {
-            step: Step {
-                count: start,
-                last: nearer(last, bound),
-            },
-            trail,
-        }),
-        Reach::Leaf(name) => {
-            let part = part_of(at.key, bound);
-            let filled = leaf_page::<Brand, P>(nodes, name, false, part, buffer, start, seat)?;
-            Some(Stepped {
-                step: Step {
-                    count: filled.count,
-                    last: part.base + filled.reached as u64,
-                },
-                trail,
-            })
+            Visit::Goes(lower) => {
+                let low = PathNode {
+                    at: lower.node,
+                    known: None,
+                };
+                at = Trail { low, high: at.low };
+                here = lower.here;
+            }
         }
     }
 }
@@ -151,35 +111,28 @@ fn try_step<'a, P: RangeEntry>(
     nodes: &'a Nodes,
     trail: Option<Trail<'a>>,
     key: u64,
-    bound: Bound,
+    request: Request,
     buffer: &mut [P],
-    start: usize,
     seat: &mut Seat,
 ) -> Option<Stepped<'a>>
     requires book { seat.old.book ≡ nodes.now }
     requires root_word { KnowsRootWord seat.old.view }
     requires trail { IfSome trail (IsTrail seat.old.view seat.old.book) }
-    requires order { IsFrom bound.up key bound.limit }
-    requires start { start < length buffer.old }
-    ensures before { take start (pairs_of P.pair buffer.new)
-        ≡ take start (pairs_of P.pair buffer.old) }
+    requires order { IsFrom request.bound.up key request.bound.limit }
+    requires start { request.start < length buffer.old }
+    ensures before { take request.start (pairs_of P.pair buffer.new)
+        ≡ take request.start (pairs_of P.pair buffer.old) }
     ensures book { seat.new.book ≡ seat.old.book }
     ensures id { seat.new.id ≡ seat.old.id }
     ensures keeps { Keeps seat.old.view seat.new.view }
     ensures seen { SeesMore seat.new.view.client.seen seat.old.id seat.old.view.client.seen }
     ensures trail { IfSome result (λ s. IsTrail seat.new.view seat.new.book s.trail) }
-    ensures step { IfSome result (λ s. IsStep bound.up seat.old.id seat.old.view seat.new.view
-        key bound.limit start (pairs_of P.pair buffer.new) s.step.count s.step.last) }
+    ensures leaf { IfSome result (λ s. IfSome s.leaf (IsLeafAt seat.new.view)) }
+    ensures step { IfSome result (λ s. IsStep request.bound.up seat.old.id seat.old.view seat.new.view
+        key request.bound.limit request.start (pairs_of P.pair buffer.new) s.step.count s.step.last) }
 {
     let at = begin(nodes, trail, key, seat)?;
-    if bound.up {
-        let request = Request {
-            limit: bound.limit,
-            start,
-        };
-        return step_up::<Brand, P>(nodes, at, request, buffer, seat);
-    }
-    step_down::<Brand, P>(nodes, at.low.at, bound.limit, buffer, start, seat)
+    step_from::<Brand, P>(nodes, at, request, buffer, seat)
 }
 
 // One step from a key on in the leaf that a guard has come to last: a part of the leaf is written into the buffer. `None` where the
@@ -188,25 +141,26 @@ fn step_last<'a, P: RangeEntry>(
     nodes: &'a Nodes,
     last: LastLeaf,
     key: u64,
-    bound: Bound,
+    request: Request,
     buffer: &mut [P],
-    start: usize,
     seat: &mut Seat,
 ) -> Option<Stepped<'a>>
     requires book { seat.old.book ≡ nodes.now }
     requires last { KnowsLast seat.old.view last }
-    requires order { IsFrom bound.up key bound.limit }
-    requires start { start < length buffer.old }
-    ensures before { take start (pairs_of P.pair buffer.new)
-        ≡ take start (pairs_of P.pair buffer.old) }
+    requires order { IsFrom request.bound.up key request.bound.limit }
+    requires start { request.start < length buffer.old }
+    ensures before { take request.start (pairs_of P.pair buffer.new)
+        ≡ take request.start (pairs_of P.pair buffer.old) }
     ensures book { seat.new.book ≡ seat.old.book }
     ensures id { seat.new.id ≡ seat.old.id }
     ensures keeps { Keeps seat.old.view seat.new.view }
     ensures seen { SeesMore seat.new.view.client.seen seat.old.id seat.old.view.client.seen }
     ensures trail { IfSome result (λ s. IsTrail seat.new.view seat.new.book s.trail) }
-    ensures step { IfSome result (λ s. IsStep bound.up seat.old.id seat.old.view seat.new.view
-        key bound.limit start (pairs_of P.pair buffer.new) s.step.count s.step.last) }
+    ensures leaf { IfSome result (λ s. IfSome s.leaf (IsLeafAt seat.new.view)) }
+    ensures step { IfSome result (λ s. IsStep request.bound.up seat.old.id seat.old.view seat.new.view
+        key request.bound.limit request.start (pairs_of P.pair buffer.new) s.step.count s.step.last) }
 {
+    let Request { bound, start } = request;
     if last.position.name == 0 || last.key / 256 != key / 256 {
         return None;
     }
@@ -225,6 +179,7 @@ fn step_last<'a, P: RangeEntry>(
             last: part.base + filled.reached as u64,
         },
         trail: Trail { low, high: low },
+        leaf: None,
     })
 }
 
@@ -234,34 +189,34 @@ pub fn read_on<'a, P: RangeEntry>(
     nodes: &'a Nodes,
     onward: Onward<'a>,
     key: u64,
-    bound: Bound,
+    request: Request,
     buffer: &mut [P],
-    start: usize,
     seat: &mut Seat,
 ) -> Option<Stepped<'a>>
     requires book { seat.old.book ≡ nodes.now }
     requires root_word { KnowsRootWord seat.old.view }
     requires trail { IfSome onward.trail (IsTrail seat.old.view seat.old.book) }
     requires last { KnowsLast seat.old.view onward.last }
-    requires order { IsFrom bound.up key bound.limit }
-    requires start { start < length buffer.old }
-    ensures before { take start (pairs_of P.pair buffer.new)
-        ≡ take start (pairs_of P.pair buffer.old) }
+    requires order { IsFrom request.bound.up key request.bound.limit }
+    requires start { request.start < length buffer.old }
+    ensures before { take request.start (pairs_of P.pair buffer.new)
+        ≡ take request.start (pairs_of P.pair buffer.old) }
     ensures book { seat.new.book ≡ seat.old.book }
     ensures id { seat.new.id ≡ seat.old.id }
     ensures keeps { Keeps seat.old.view seat.new.view }
     ensures seen { SeesMore seat.new.view.client.seen seat.old.id seat.old.view.client.seen }
     ensures trail { IfSome result (λ s. IsTrail seat.new.view seat.new.book s.trail) }
-    ensures step { IfSome result (λ s. IsStep bound.up seat.old.id seat.old.view seat.new.view
-        key bound.limit start (pairs_of P.pair buffer.new) s.step.count s.step.last) }
+    ensures leaf { IfSome result (λ s. IfSome s.leaf (IsLeafAt seat.new.view)) }
+    ensures step { IfSome result (λ s. IsStep request.bound.up seat.old.id seat.old.view seat.new.view
+        key request.bound.limit request.start (pairs_of P.pair buffer.new) s.step.count s.step.last) }
 {
     let Onward { trail, last } = onward;
-    if let Some(stepped) = step_last(nodes, last, key, bound, buffer, start, seat) {
+    if let Some(stepped) = step_last(nodes, last, key, request, buffer, seat) {
         return Some(stepped);
     }
     let mut at = trail;
     for _ in 0..TRIES {
-        if let Some(stepped) = try_step(nodes, at, key, bound, buffer, start, seat) {
+        if let Some(stepped) = try_step(nodes, at, key, request, buffer, seat) {
             return Some(stepped);
         }
         at = None;
@@ -269,12 +224,33 @@ pub fn read_on<'a, P: RangeEntry>(
     None
 }
 
-/// The pairs with keys from this one up to a limit, in the order of that direction, until the buffer is full. It goes on from a
-/// position, or in the leaf that the guard has come to last. `None` where too many writers came in between.
+// The leaf that a caller has come to last after a step, which may have read one: that is as one below the root, since the node above
+// isn't kept.
+fn leaf_after(root: Position, leaf: Option<Position>, last: LastLeaf) -> LastLeaf
+    requires root { root.height ≡ 8 }
+    ensures { (v : SeatView View) → IsPosition v root → IfSome leaf (IsLeafAt v) → KnowsLast v last → KnowsLast v result }
+{
+    let Some(leaf) = leaf else {
+        return last;
+    };
+    LastLeaf {
+        key: leaf.key,
+        position: descend::Position {
+            above: root.name,
+            level: 8,
+            name: leaf.name,
+            height: 1,
+        },
+    }
+}
+
+/// The pairs with keys from this one up to a limit, in the order of that direction, until the buffer is full. It goes on from the
+/// root, or in the leaf that the guard has come to last. The last leaf that was read is that one then. `None` where too many writers
+/// came in between.
 pub fn page<P: RangeEntry>(
     nodes: &Nodes,
-    position: Position,
-    last: LastLeaf,
+    root: Position,
+    last: &mut LastLeaf,
     key: u64,
     bound: Bound,
     buffer: &mut [P],
@@ -282,27 +258,36 @@ pub fn page<P: RangeEntry>(
 ) -> Option<Step>
     requires book { seat.old.book ≡ nodes.now }
     requires root_word { KnowsRootWord seat.old.view }
-    requires position { IsPosition seat.old.view position }
-    requires last { KnowsLast seat.old.view last }
+    requires root { IsPosition seat.old.view root × (root.height ≡ 8) }
+    requires last { KnowsLast seat.old.view last.old }
     requires order { IsFrom bound.up key bound.limit }
     requires room { 0 < length buffer.old }
     ensures book { seat.new.book ≡ seat.old.book }
     ensures id { seat.new.id ≡ seat.old.id }
     ensures keeps { Keeps seat.old.view seat.new.view }
     ensures seen { SeesMore seat.new.view.client.seen seat.old.id seat.old.view.client.seen }
+    ensures last { KnowsLast seat.new.view last.new }
     ensures page { IfSome result (λ s. IsPage bound.up seat.old.id seat.old.view seat.new.view
         key bound.limit (pairs_of P.pair buffer.new) s.count s.last) }
 {
     let mut count = 0;
     let mut from = key;
     let low = PathNode {
-        at: position,
+        at: root,
         known: None,
     };
     let mut at = Some(Trail { low, high: low });
     loop {
-        let onward = Onward { trail: at, last };
-        let stepped = read_on(nodes, onward, from, bound, buffer, count, seat)?;
+        let onward = Onward {
+            trail: at,
+            last: *last,
+        };
+        let request = Request {
+            bound,
+            start: count,
+        };
+        let stepped = read_on(nodes, onward, from, request, buffer, seat)?;
+        *last = leaf_after(root, stepped.leaf, *last);
         let step = stepped.step;
         if step.count == buffer.len() {
             return Some(step);

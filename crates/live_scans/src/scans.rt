@@ -47,18 +47,17 @@ pub fn range_inclusive<P: RangeEntry>(
         begin_only(map, guard)?;
         return Ok(0);
     }
-    let Some(position) = start(&map.nodes, first, &mut guard.seat) else {
+    let Some(root) = start(&map.nodes, first, &mut guard.seat) else {
         return Err(Busy);
     };
     let bound = Bound {
         up: true,
         limit: last,
     };
-    let leaf = guard.room.last;
     let Some(step) = page(
         &map.nodes,
-        position,
-        leaf,
+        root,
+        &mut guard.room.last,
         first,
         bound,
         buffer,

@@ -1,82 +1,13 @@
-//! The path of a reader: where it begins, and downwards from a node to a leaf.
-ghost use Rattle.std.specs.Prelude.{◌≡◌, ◌≤◌, false, IfSome};
+//! Where the path of a reader begins.
+ghost use Rattle.std.specs.Prelude.{◌≡◌, ◌≤◌, IfSome};
 ghost use Rattle.live_law.specs.Levels.{up};
-ghost use Rattle.live_scans.specs.inner.Moments.{SeesMore};
 ghost use Rattle.live_reads.specs.Paths.{KnowsRootWord, Keeps};
-ghost use Rattle.live_scans.specs.inner.Stops.{IsPosition, IsTrail, Starts, Reaches};
+ghost use Rattle.live_scans.specs.inner.Stops.{IsTrail, Starts};
 
-use crate::gaps::{around, gap};
 use crate::keys::upper;
 use crate::position::{PathNode, Position, Trail};
 use live_growth::map::TRIES;
-use live_law::law::Asks;
 use live_reads::path::{Nodes, Seat, root, root_begun};
-use live_reads::prefix_match::{Next, enter, step};
-
-/// Where a reader's path downwards ends: past keys that are absent, up to this one, or at a leaf, which has this name.
-#[derive(Clone, Copy, Debug, PartialEq, Eq)]
-pub enum Reach {
-    Past(u64),
-    Leaf(u64),
-}
-
-/// Where a reader's path ends, and the node above.
-#[derive(Clone, Copy, Debug, PartialEq, Eq)]
-pub struct Sought {
-    pub position: Position,
-    pub reach: Reach,
-}
-
-/// The end of a reader's path downwards from a node on, by the position's key. `None` where a writer came in between.
-pub fn seek_down<A: Asks>(nodes: &Nodes, position: Position, seat: &mut Seat) -> Option<Sought>
-    requires book { seat.old.book ≡ nodes.now }
-    requires asks { (A.ask.key ≡ position.key) × (A.ask.caller ≡ seat.old.id) × (A.reads ≡ false) }
-    requires position { IsPosition seat.old.view position }
-    ensures book { seat.new.book ≡ seat.old.book }
-    ensures id { seat.new.id ≡ seat.old.id }
-    ensures keeps { Keeps seat.old.view seat.new.view }
-    ensures seen { SeesMore seat.new.view.client.seen seat.old.id seat.old.view.client.seen }
-    ensures position { IfSome result (λ s. IsPosition seat.new.view s.position) }
-    ensures reaches { IfSome result (λ s. Reaches seat.old.id seat.old.view seat.new.view
-        position.key s.reach) }
-{
-    let key = position.key;
-    let mut at = position;
-    let mut here = enter(nodes, at.name, at.height, key, seat)?;
-    loop {
-        let step = step::<A>(nodes, here, at.name, at.height, key, seat)?;
-        match step.next {
-            Next::Ends => {
-                let first = gap::<A>(nodes, at.name, at.height, key, seat)?;
-                return Some(Sought {
-                    position: at,
-                    reach: Reach::Past(first),
-                });
-            }
-            Next::Goes(below, lower) => {
-                if lower == 1 {
-                    return Some(Sought {
-                        position: at,
-                        reach: Reach::Leaf(below),
-                    });
-                }
-                at = Position {
-                    name: below,
-                    height: lower,
-                    key,
-                };
-                here = step.here;
-            }
-            Next::Mismatches(mismatch) => {
-                let first = around::<A>(nodes, at.name, at.height, mismatch, key, seat)?;
-                return Some(Sought {
-                    position: at,
-                    reach: Reach::Past(first),
-                });
-            }
-        }
-    }
-}
 
 // This node with another key, if the key begins like it.
 #[inline(always)]

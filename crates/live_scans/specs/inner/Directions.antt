@@ -1,5 +1,5 @@
 -- Keys that are read upwards (true) or downwards.
-use Rattle.std.specs.Prelude.{◌≡◌, ℕ, ◌+◌, ◌%◌, Bool, true, false, reverse}
+use Rattle.std.specs.Prelude.{◌≡◌, ◌⊎◌, ℕ, ◌+◌, ◌%◌, Bool, true, false, reverse}
 use Rattle.spec_map.specs.Map.{Pairs}
 
 -- of the keys from one to another, both with them, the least, and the one above the greatest
@@ -15,6 +15,11 @@ high_of false from to = from + 1
 abbrev pub EndsLeaf : Bool → ℕ → Type 0
 EndsLeaf true key = (key + 1) % 256 ≡ 0
 EndsLeaf false key = key % 256 ≡ 0
+
+-- It is the first one of a leaf in that direction, or of those that are read.
+abbrev pub BeginsLeaf : Bool → ℕ → ℕ → Type 0
+BeginsLeaf true key from = (from % 256 ≡ 0) ⊎ (key ≡ from)
+BeginsLeaf false key from = ((from + 1) % 256 ≡ 0) ⊎ (from + 1 ≡ key + 1)
 
 -- This is the next key.
 abbrev pub IsNextKey : Bool → ℕ → ℕ → Type 0

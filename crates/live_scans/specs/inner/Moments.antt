@@ -1,5 +1,5 @@
 -- What a seat learns at one moment of many keys.
-use Rattle.std.specs.Prelude.{◌≡◌, ◌≢◌, ℕ, ◌+◌, ◌-◌, ◌*◌, ◌<◌, ◌≤◌, Bool, nat_eq, List, [], Option, Some, None}
+use Rattle.std.specs.Prelude.{◌≡◌, ℕ, ◌+◌, ◌<◌, ◌≤◌, Bool, true, false, nat_eq, List, [], Option, Some, None}
 use Rattle.spec_map.specs.Map.{Pairs, lookup}
 use Rattle.spec_node.specs.TableNode.{Child}
 use Rattle.spec_node.specs.declared.child.Child.TheVariants as below
@@ -46,19 +46,20 @@ pub record HasNone (caller : ℕ) (v w : SeatView View) (Is : ℕ → Type 0) : 
   pub legal : IsHistory nat_eq w.client.seen pairs
   pub none : (k : ℕ) → Is k → lookup pairs k ≡ None
 
--- keys that begin like this one down to a height, and have there a byte from its own up to this one
-abbrev pub IsWithin : ℕ → ℕ → ℕ → ℕ → Type 0
-IsWithin height key b k = (up height k ≡ up height key) × (digit height key ≤ digit height k) × (digit height k ≤ b)
-
--- keys that begin like this one below a height, and don't have that byte at a lower one
-abbrev pub IsBeside : ℕ → ℕ → ℕ → ℕ → ℕ → Type 0
-IsBeside height key at b k = (up (height - 1) k ≡ up (height - 1) key) × (up (at - 1) k ≢ 256 * up at key + b)
+-- keys that begin like this one down to a height, and have there a byte from its own up to this one in that direction
+abbrev pub IsWithin : Bool → ℕ → ℕ → ℕ → ℕ → Type 0
+IsWithin rising height key b k = (up height k ≡ up height key) × IsFrom rising (digit height key) (digit height k) × IsFrom rising (digit height k) b
 
 -- THE SEAT READ these keys, upwards (true) or downwards, and found these pairs.
 pub record Reads (up : Bool) (caller : ℕ) (v w : SeatView View) (low high : ℕ) (pairs : Pairs ℕ) : Type 0 where
   pub fits : SeesMore w.client.seen caller v.client.seen
   pub legal : IsLegalHistory nat_eq w.client.seen
   pub read : HasRead up v.client.seen w.client.seen low high pairs
+
+-- It read the keys from one on and before another, and found nothing.
+abbrev pub ReadsTo : Bool → ℕ → SeatView View → SeatView View → ℕ → ℕ → Type 0
+ReadsTo true caller v w key from = Reads true caller v w key from []
+ReadsTo false caller v w key from = Reads false caller v w (from + 1) (key + 1) []
 
 -- It read from a key to another, and found nothing. The other one is the last of a leaf, whether there is one or not.
 pub record IsPassed (up : Bool) (caller : ℕ) (v w : SeatView View) (key to : ℕ) : Type 0 where

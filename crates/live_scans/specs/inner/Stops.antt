@@ -1,5 +1,5 @@
 -- Where a reader's path begins and ends.
-use Rattle.std.specs.Prelude.{◌≡◌, ℕ, ◌≤◌, false, List, Option, Some, None, IfSome}
+use Rattle.std.specs.Prelude.{◌≡◌, ℕ, ◌≤◌, List, Option, Some, None, IfSome}
 use Rattle.word_book.specs.Book.{Book, Name}
 use Rattle.live_nodes.specs.Nodes.{Content}
 use Rattle.live_nodes.specs.Seats.{SeatView, Agree}
@@ -10,12 +10,9 @@ use Rattle.live_law.specs.Tree.{IsOf}
 use Rattle.live_law.specs.Views.{View}
 use Rattle.live_reads.specs.Paths.{Names}
 use Rattle.live_reads.specs.Roots.{Begins}
-use Rattle.live_scans.specs.inner.Moments.{IsPassed}
 use Rattle.live_scans.specs.declared.position.Position.{Position}
 use Rattle.live_scans.specs.declared.position.PathNode.{PathNode}
 use Rattle.live_scans.specs.declared.position.Trail.{Trail}
-use Rattle.live_scans.specs.declared.seek.Reach.{Reach}
-use Rattle.live_scans.specs.declared.seek.Reach.TheVariants as reaches
 
 -- an inner node that the seat has met, and a key that begins like it
 abbrev pub IsPosition : SeatView View → Position → Type 0
@@ -34,10 +31,9 @@ IsPathNode v b s = IsPosition v s.at × IfSome s.known (λ k. HasWords v b s.at 
 abbrev pub IsTrail : SeatView View → Book → Trail → Type 0
 IsTrail v b t = IsPathNode v b t.low × IsPathNode v b t.high
 
--- Downwards: past keys that are absent, or at the leaf of the key, which has that name.
-abbrev pub Reaches : ℕ → SeatView View → SeatView View → ℕ → Reach → Type 0
-Reaches caller v w key (reaches.Past last) = IsPassed false caller v w key last
-Reaches caller v w key (reaches.Leaf name) = Names w name key 1
+-- a leaf that the seat has met, and a key that begins like it
+abbrev pub IsLeafAt : SeatView View → Position → Type 0
+IsLeafAt v s = Names v s.name s.key 1
 
 -- A reader began, and is at the root. Or it has seen no more.
 abbrev pub Starts : ℕ → SeatView View → SeatView View → ℕ → Option Position → Type 0

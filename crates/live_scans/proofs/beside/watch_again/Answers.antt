@@ -23,7 +23,7 @@ check-requires-clause-learns g c =
     let at_k = (first_word (place_at f.child.sighted.spot) c.args.seat.now.book others f.child.opened.are first first (sym c.index-words-0.is)).0 in
     let even = f.child.even in
     let free = f.free in
-    let may = may_watch_again v c.args.seat.now.book c.args.here.words.now t c.args.at c.args.child l.node others other f c.requires.height.0 first.key at_k c.args.seat.now.id (other / 4) (t / 4) (omega (arith, even)) (omega (arith, free)) in
+    let may = may_watch_again c.args.up v c.args.seat.now.book c.args.here.words.now t c.args.at c.args.child l.node others other f c.requires.height.0 first.key at_k c.args.seat.now.id (other / 4) (t / 4) (omega (arith, even)) (omega (arith, free)) in
     let above = c.requires.above.0 ∙ f.second in
     subst (λ (z : ℕ × Option ℕ). MayCheck v first.key IsMap c.args.seat.now.id (LearnsBelow z.0 z.1) other) (λ j. (sym above j, sym c.requires.above.1 j)) may
 
@@ -44,12 +44,12 @@ returns g c =
     let seat = c.check.ensures.seat in
     let above = c.requires.above.0 ∙ f.second in
     let told : Checks (LearnsBelow f.names.spot.number (Some t)) (reads first.key) v tells.0 none_joined w = subst (λ (z : ℕ × Option ℕ). Checks (LearnsBelow z.0 z.1) (reads first.key) v tells.0 none_joined w) (λ i. (above i, c.requires.above.1 i)) tells.2 in
-    let missed = again_missed v b words t c.args.at c.args.child l.node others other f c.requires.height.0 first.key at_k w tells.0 told in
-    let keeps = again_keeps v b words t c.args.at c.args.child l.node others other f c.requires.height.0 first.key at_k w tells.0 told in
+    let missed = again_missed c.args.up v b words t c.args.at c.args.child l.node others other f c.requires.height.0 first.key at_k w tells.0 told in
+    let keeps = again_keeps c.args.up v b words t c.args.at c.args.child l.node others other f c.requires.height.0 first.key at_k w tells.0 told in
     record {
       book = seat.0;
       id = seat.1;
       keeps = dite (ℕ_discrete tells.0 other) (λ e. (keeps e).0) (λ ne. (missed ne).0);
       seen = dite (ℕ_discrete tells.0 other) (λ e. (keeps e).1) (λ ne. ap (λ (z : View). z.seen) (missed ne).1);
-      next = λ yes. again_next v b words t c.args.at c.args.child l.node others other f c.requires.height.0 first.key at_k w tells.0 told (tells.1.0 yes) c.check.new.seat.book seat.0;
+      next = λ yes. again_next c.args.up v b words t c.args.at c.args.child l.node others other f c.requires.height.0 first.key at_k w tells.0 told (tells.1.0 yes) c.check.new.seat.book seat.0;
     }

@@ -6,7 +6,7 @@ use Rattle.live_law.specs.Known.{Known}
 use Rattle.live_growth.specs.Calls.{known_of}
 use Rattle.live_reads.proofs.Finds.{keeps_then}
 use Rattle.live_reads.proofs.Stood.{last_kept}
-use Rattle.live_growth.proofs.Ready.{ready_kept}
+use Rattle.live_growth.proofs.Ready.{ready_kept, ready_last}
 use Rattle.live_scans.specs.Scans.{HasBegun}
 use Rattle.live_scans.proofs.Pages.{begun_by}
 use Rattle.live_scans.specs.Descents.{HasPageDown}
@@ -35,7 +35,7 @@ invariant_of-guard-in_default-page g c =
     let u = c.guard.inside.seat.view in
     let v = c.start.new.seat.view in
     let w = c.page.new.seat.view in
-    ready_kept u w c.guard.inside.room c.guard.invariant (keeps_then u v w c.in-Some.ensures.keeps c.in_default-page.ensures.keeps)
+    ready_last w c.guard.inside.room c.page.new.last (ready_kept u w c.guard.inside.room c.guard.invariant (keeps_then u v w c.in-Some.ensures.keeps c.in_default-page.ensures.keeps)) c.in_default-page.ensures.last
 
 pub returns-in_default-page-clause-busy : goal.returns-in_default-page-clause-busy
 returns-in_default-page-clause-busy g c =
@@ -52,7 +52,7 @@ invariant_of-guard-2 g c =
     let u = c.guard.inside.seat.view in
     let v = c.start.new.seat.view in
     let w = c.page.new.seat.view in
-    ready_kept u w c.guard.inside.room c.guard.invariant (keeps_then u v w c.in-Some.ensures.keeps c.in-Some-page.ensures.keeps)
+    ready_last w c.guard.inside.room c.page.new.last (ready_kept u w c.guard.inside.room c.guard.invariant (keeps_then u v w c.in-Some.ensures.keeps c.in-Some-page.ensures.keeps)) c.in-Some-page.ensures.last
 
 pub returns-clause-page : goal.returns-clause-page
 returns-clause-page g c =

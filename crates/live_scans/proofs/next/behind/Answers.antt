@@ -8,8 +8,8 @@ use Rattle.live_reads.proofs.Views.{first_word}
 use Rattle.live_scans.specs.inner.Moments.{IsRead, IsWithin}
 use Rattle.live_scans.proofs.Wholes.{may_whole, whole_missed, whole_hit}
 use Rattle.live_scans.proofs.Passes.{seen_equal}
-use Rattle.live_scans.proofs.Composed.{none_read}
 use Rattle.live_scans.proofs.Nones.{has_none_from, is_within}
+use Rattle.live_scans.proofs.Nexts.{none_up_to}
 use Rattle.live_scans.proofs.next.behind.Given.{Over}
 use Rattle.live_scans.proofs.next.behind.Goals as goal
 use Rattle.live_scans.proofs.next.behind.Goals.{After-index-words-0, After-check}
@@ -51,10 +51,10 @@ returns-then-not-check g c =
     let missed = whole_missed v c.args.seat.now.book c.args.here.words.now c.args.here.taken c.args.at.name c.args.at.key c.args.at.height n.here v refl c.index-words-0.result.key (at_word g (goal.at.returns-then-not-check g c).After-index-words-0) g.A.Asks.ask.caller w tells.0 tells.2 (search rules) in
     record { book = seat.0; id = seat.1; keeps = missed.0; seen = seen_equal c.args.seat.now.id v w (ap (λ (z : View). z.seen) missed.1); passed = tt }
 
-pub returns-then-last-at : goal.returns-then-last-at
-returns-then-last-at g c =
+pub returns-then-not-ends_leaf : goal.returns-then-not-ends_leaf
+returns-then-not-ends_leaf g c =
     let seat = c.check.ensures.seat in
-    let x = checked g (goal.at.returns-then-last-at g c).After-check (search rules) in
+    let x = checked g (goal.at.returns-then-not-ends_leaf g c).After-check (search rules) in
     record { book = seat.0; id = seat.1; keeps = x.0; seen = x.1.fits; passed = tt }
 
 pub returns : goal.returns
@@ -70,16 +70,19 @@ returns g c =
     let node = x.node in
     let near = n.near node.content node.its (subst (Agree node.content) (ap last_saw n.here.opened.reads) node.agrees) node.encodes node.in_form in
     let high = c.requires.height.0 in
-    let none = has_none_from c.args.seat.now.id v w c.args.at.name key height n.here.names c.args.here.taken (last_saw v.reads) x _ 255 refl near in
-    let last = c.last_of-last.result in
+    let up = c.args.up in
+    let end = c.end_byte.result in
+    let none = has_none_from c.args.seat.now.id v w c.args.at.name key height n.here.names c.args.here.taken (last_saw v.reads) x up _ end refl near in
+    let last = c.end_of-last.result in
+    let e = c.ends_leaf.ensures (search rules) in
     record {
       book = seat.0;
       id = seat.1;
       keeps = read.0;
       seen = x.fits;
       passed = record {
-        order = omega (arith, c.if-last-at.false);
-        seam = omega (arith, c.if-last-ne255.false);
-        reads = none_read true c.args.seat.now.id v w (IsWithin height key 255) key (last + 1) none (λ k from to. is_within height key last 255 k (omega (arith, high)) (omega arith) c.last_of-last.ensures from (omega (arith, to)));
+        order = e.0;
+        seam = e.1;
+        reads = none_up_to up c.args.seat.now.id v w (IsWithin up height key end) key last none (λ k from to. is_within up height key last end k (omega (arith, high)) (omega arith) c.end_of-last.ensures from to);
       };
     }

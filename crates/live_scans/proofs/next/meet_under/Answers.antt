@@ -19,10 +19,10 @@ check-requires-clause-learns g c =
     let first = c.index-words-0.result in
     let at_k = (first_word (place_at spot) b words n.here.opened.are first first (sym c.index-words-0.is)).0 in
     let high = c.requires.height.0 in
-    let at = up_of c.args.at.height c.args.to (up c.args.at.height c.args.at.key) c.args.byte (omega (arith, high)) c.ranges.byte.fits c.requires.to in
+    let at = up_of c.args.at.height c.args.to (up c.args.at.height c.args.at.key) c.args.child.0 (omega (arith, high)) (omega arith) c.requires.to in
     let above = ap (up c.args.at.height) c.requires.asks.0 ∙ at.0 in
     let at_byte = ap (digit c.args.at.height) c.requires.asks.0 ∙ at.1 in
-    may_meet_under v b words t c.args.at (c.args.byte, c.args.word) n high q above at_byte first.key at_k g.A.Asks.reads c.args.seat.now.id (t / 4) c.requires.asks.1 (let f = n.here.free in omega (arith, f))
+    may_meet_under c.args.up v b words t c.args.at c.args.child n high q above at_byte first.key at_k g.A.Asks.reads c.args.seat.now.id (t / 4) c.requires.asks.1 (let f = n.here.free in omega (arith, f))
 
 pub returns : goal.returns
 returns g c =
@@ -36,19 +36,19 @@ returns g c =
     let first = c.index-words-0.result in
     let at_k = (first_word (place_at spot) b words n.here.opened.are first first (sym c.index-words-0.is)).0 in
     let high = c.requires.height.0 in
-    let at = up_of c.args.at.height c.args.to (up c.args.at.height c.args.at.key) c.args.byte (omega (arith, high)) c.ranges.byte.fits c.requires.to in
+    let at = up_of c.args.at.height c.args.to (up c.args.at.height c.args.at.key) c.args.child.0 (omega (arith, high)) (omega arith) c.requires.to in
     let above = ap (up c.args.at.height) c.requires.asks.0 ∙ at.0 in
     let at_byte = ap (digit c.args.at.height) c.requires.asks.0 ∙ at.1 in
     let tells = c.check.ensures.told in
     let seat = c.check.ensures.seat in
     let w = c.check.new.seat.view in
-    let keeps = under_keeps v b words t c.args.at (c.args.byte, c.args.word) n high q above at_byte first.key at_k g.A.Asks.reads w tells.0 tells.2 in
-    let missed = under_missed v b words t c.args.at (c.args.byte, c.args.word) n high q above at_byte first.key at_k g.A.Asks.reads w tells.0 tells.2 in
+    let keeps = under_keeps c.args.up v b words t c.args.at c.args.child n high q above at_byte first.key at_k g.A.Asks.reads w tells.0 tells.2 in
+    let missed = under_missed c.args.up v b words t c.args.at c.args.child n high q above at_byte first.key at_k g.A.Asks.reads w tells.0 tells.2 in
     record {
       book = seat.0;
       id = seat.1;
       keeps = dite (ℕ_discrete tells.0 t) (λ e. (keeps e).0) (λ ne. (missed ne).0);
       seen = dite (ℕ_discrete tells.0 t) (λ e. (keeps e).1) (λ ne. ap (λ (z : View). z.seen) (missed ne).1);
-      near = λ yes. under_near v b words t c.args.at (c.args.byte, c.args.word) n high q above at_byte first.key at_k g.A.Asks.reads w tells.0 tells.2 (tells.1.0 yes) c.check.new.seat.book seat.0;
-      met = λ yes. under_met v b words t c.args.at (c.args.byte, c.args.word) n high q above at_byte first.key at_k g.A.Asks.reads w tells.0 tells.2 (tells.1.0 yes);
+      near = λ yes. under_near c.args.up v b words t c.args.at c.args.child n high q above at_byte first.key at_k g.A.Asks.reads w tells.0 tells.2 (tells.1.0 yes) c.check.new.seat.book seat.0;
+      met = λ yes. under_met c.args.up v b words t c.args.at c.args.child n high q above at_byte first.key at_k g.A.Asks.reads w tells.0 tells.2 (tells.1.0 yes);
     }

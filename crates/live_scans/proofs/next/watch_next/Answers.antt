@@ -37,13 +37,13 @@ module _ (g : Over) (c : After-index-there-0 g) where
   abbrev k : ℕ
   k = (get_or c.in_ok-there.there.words.now 0 c.index-there-0.result).key
 
-  abbrev child : ChildRead c.args.seat.now.view c.args.seat.now.book c.args.here.words.now c.args.here.taken c.args.at (c.args.byte, c.args.word) c.slot_below-below.result c.open.new.seat.view c.open.new.seat.book c.in_ok-there.there.words.now c.in_ok-there.there.taken c.word-head.new.seat.view k
+  abbrev child : ChildRead c.args.up c.args.seat.now.view c.args.seat.now.book c.args.here.words.now c.args.here.taken c.args.at c.args.child c.slot_below-below.result c.open.new.seat.view c.open.new.seat.book c.in_ok-there.there.words.now c.in_ok-there.there.taken c.word-head.new.seat.view k
   child =
       let o = (goal.at.After-index-there-0 g c).In_ok-there in
       let told = c.open.ensures.told in record {
         near = c.requires.near;
         high = c.requires.height.0;
-        low_byte = c.ranges.byte.fits;
+        low_byte = omega arith;
         child = below g o;
         is_child = λ s e. sym (c.slot_below-below.ensures s e);
         apart = c.if-below-at.false;

@@ -35,7 +35,8 @@ returns-in-Some-try_step g c =
       keeps = keeps_then u v w i.keeps t.keeps;
       seen = seen_since c.loop.seat.id id u v w i.id i.seen t.seen;
       trail = t.trail;
-      step = step_since c.args.bound.up c.loop.seat.id id u v w c.args.key c.args.bound.limit c.args.start s.count s.last (pairs_of g.P.RangeEntry.pair c.try_step.new.buffer) i.id i.seen t.step;
+      leaf = t.leaf;
+      step = step_since c.args.request.bound.up c.loop.seat.id id u v w c.args.key c.args.request.bound.limit c.args.request.start s.count s.last (pairs_of g.P.RangeEntry.pair c.try_step.new.buffer) i.id i.seen t.step;
     }
 
 pub loop-preserved : goal.loop-preserved

@@ -12,5 +12,5 @@ invariant-loop g l = record {
   keeps : Keeps l.fn.seat.view l.seat.view;
   seen : SeesMore l.seat.view.client.seen l.fn.seat.id l.fn.seat.view.client.seen;
   trail : IfSome l.at (IsTrail l.seat.view l.seat.book);
-  before : take l.start (pairs_of g.P.RangeEntry.pair l.buffer) ≡ take l.start (pairs_of g.P.RangeEntry.pair l.fn.buffer);
+  before : take l.request.start (pairs_of g.P.RangeEntry.pair l.buffer) ≡ take l.request.start (pairs_of g.P.RangeEntry.pair l.fn.buffer);
 }

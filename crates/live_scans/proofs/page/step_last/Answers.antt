@@ -17,7 +17,7 @@ leaf_page-requires-clause-named g c =
     let p = c.part_of-part.result in
     let q = c.part_of-part.ensures in
     let k = c.requires.last (some_leaf g (goal.at.leaf_page-requires-clause-named g c).After-part_of-part) in
-    leaf_at c.args.bound.up c.args.seat.now.view c.args.last c.args.key p.base p.first p.last k (omega (arith, c.if-last-key.false)) q.base.0 q.begins q.order (omega arith)
+    leaf_at c.args.request.bound.up c.args.seat.now.view c.args.last c.args.key p.base p.first p.last k (omega (arith, c.if-last-key.false)) q.base.0 q.begins q.order (omega arith)
 
 pub returns : goal.returns
 returns g c =
@@ -39,5 +39,6 @@ returns g c =
       keeps = e.keeps;
       seen = e.seen;
       trail = let at = position_above x c.args.last (last_kept u x c.args.last e.keeps c.requires.last some) in ((at, tt), (at, tt));
-      step = leaf_step c.args.bound.up id id u u x c.args.key c.args.bound.limit c.args.start p.base p.first p.last o.count o.reached buffer refl (more_same id u.client.seen) q.base.0 q.begins q.within q.whole f.0 (omega (arith, n, f)) f.2 f.3 (omega arith) (λ ne. omega (arith, n, f.4 ne)) e.reads;
+      leaf = tt;
+      step = leaf_step c.args.request.bound.up id id u u x c.args.key c.args.request.bound.limit c.args.request.start p.base p.first p.last o.count o.reached buffer refl (more_same id u.client.seen) q.base.0 q.begins q.within q.whole f.0 (omega (arith, n, f)) f.2 f.3 (omega arith) (λ ne. omega (arith, n, f.4 ne)) e.reads;
     }

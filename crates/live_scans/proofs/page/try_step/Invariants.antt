@@ -2,8 +2,5 @@ use Rattle.std.proofs.Common.{false}
 use Rattle.live_law.specs.Views.{ask}
 use Rattle.live_scans.proofs.page.try_step.Given as goal
 
-abbrev pub ghosts-step_up : goal.ghosts-step_up
-ghosts-step_up g a = record { ask = ask a.seat.now.id 0 0 0; reads = false }
-
-abbrev pub ghosts-step_down : goal.ghosts-step_down
-ghosts-step_down g a = record { ask = ask a.seat.now.id a.at.key 0 0; reads = false }
+abbrev pub ghosts-step_from : goal.ghosts-step_from
+ghosts-step_from g a = record { ask = ask a.seat.now.id 0 0 0; reads = false }

@@ -1,6 +1,0 @@
-use Rattle.std.proofs.Common.{false}
-use Rattle.live_law.specs.Views.{ask}
-use Rattle.live_scans.proofs.page.step_down.Given as goal
-
-abbrev pub ghosts-leaf_page : goal.ghosts-leaf_page
-ghosts-leaf_page g a = record { ask = ask a.seat.now.id 0 0 0; reads = false }
