@@ -13,6 +13,7 @@ use live_layout::words::ReadWords;
 use node_base::base_node::NodeType;
 
 // The last payload of a leaf up to a byte, from another one on: its byte and itself.
+#[inline(always)]
 fn previous_within<S, R: ReadWords<S>>(
     cells: &R,
     form: NodeType,
