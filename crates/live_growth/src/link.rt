@@ -125,9 +125,10 @@ pub fn link<A: Asks>(
     requires height { (2 ≤ height) × (height ≤ 8) }
     requires rests { (seat.old.view.client.own ≡ []) × (seat.old.view.holds ≡ []) }
     requires spare { Sights seat.old.view spare }
-    ensures told { (seat.new.book ≡ seat.old.book) × (seat.new.id ≡ seat.old.id)
-        × HasGrown seat.old.view seat.new.view
-        × (seat.new.view.room ≡ seat.old.view.room) }
+    ensures book { seat.new.book ≡ seat.old.book }
+    ensures id { seat.new.id ≡ seat.old.id }
+    ensures grown { HasGrown seat.old.view seat.new.view }
+    ensures room { seat.new.view.room ≡ seat.old.view.room }
     ensures free_nodes { (v : SeatView View) → HasFreeNodes v free_nodes.old
         → HasFreeNodes v free_nodes.new }
     ensures linked { IfOk result (λ _. Names seat.new.view spare key 1) }

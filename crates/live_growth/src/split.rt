@@ -39,9 +39,10 @@ pub fn split<A: Asks>(
     requires leaves { Leaves seat.old.view mismatch.below key mismatch.at mismatch.byte }
     requires rests { (seat.old.view.client.own ≡ []) × (seat.old.view.holds ≡ []) }
     requires spare { Sights seat.old.view spare }
-    ensures told { (seat.new.book ≡ seat.old.book) × (seat.new.id ≡ seat.old.id)
-        × HasGrown seat.old.view seat.new.view
-        × (seat.new.view.room ≡ seat.old.view.room) }
+    ensures book { seat.new.book ≡ seat.old.book }
+    ensures id { seat.new.id ≡ seat.old.id }
+    ensures grown { HasGrown seat.old.view seat.new.view }
+    ensures room { seat.new.view.room ≡ seat.old.view.room }
     ensures free_nodes { (v : SeatView View) → HasFreeNodes v free_nodes.old → Sights v spare
         → HasFreeNodes v free_nodes.new }
     ensures gone { IsTrue result → 1 ≤ spare → Lacks free_nodes.new spare }

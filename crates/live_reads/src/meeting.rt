@@ -42,7 +42,7 @@ pub fn meet<C: Callers>(a: &mut Seat, b: &mut Seat)
     ensures first { (a.new.book ≡ a.old.book) × (a.new.id ≡ a.old.id) }
     ensures second { (b.new.book ≡ b.old.book) × (b.new.id ≡ b.old.id) }
     ensures differ { a.old.id ≢ b.old.id }
-    ensures told { Meets (HaveMet C.first C.second) a.old.view b.old.view a.new.view b.new.view }
+    ensures met { Meets (HaveMet C.first C.second) a.old.view b.old.view a.new.view b.new.view }
 {
     room::meet::<MapView, MapLaw, Both<C>>(a, b)
 }

@@ -124,9 +124,10 @@ fn shrink_node<A: Asks>(
     requires below { position.height < 8 }
     requires rests { (seat.old.view.client.own ≡ []) × (seat.old.view.holds ≡ []) }
     requires spare { Sights seat.old.view spare }
-    ensures told { (seat.new.book ≡ seat.old.book) × (seat.new.id ≡ seat.old.id)
-        × HasGrown seat.old.view seat.new.view
-        × (seat.new.view.room ≡ seat.old.view.room) }
+    ensures book { seat.new.book ≡ seat.old.book }
+    ensures id { seat.new.id ≡ seat.old.id }
+    ensures grown { HasGrown seat.old.view seat.new.view }
+    ensures room { seat.new.view.room ≡ seat.old.view.room }
     ensures free_nodes { (v : SeatView View) → HasFreeNodes v free_nodes.old
         → HasFreeNodes v free_nodes.new }
 {
@@ -174,9 +175,10 @@ fn shrink_end(nodes: &Nodes, name: u64, spare: u64, key: u64, room: &mut Room, s
     requires book { seat.old.book ≡ nodes.now }
     requires ready { IsReady seat.old.view room.old }
     requires spare { Sights seat.old.view spare }
-    ensures told { (seat.new.book ≡ seat.old.book) × (seat.new.id ≡ seat.old.id)
-        × IsReady seat.new.view room.new
-        × (seat.new.view.client.seen ≡ seat.old.view.client.seen) }
+    ensures book { seat.new.book ≡ seat.old.book }
+    ensures id { seat.new.id ≡ seat.old.id }
+    ensures ready { IsReady seat.new.view room.new }
+    ensures seen { seat.new.view.client.seen ≡ seat.old.view.client.seen }
 {
     let Some(
         End {
@@ -211,9 +213,10 @@ pub fn shrink_on_path(
 )
     requires book { seat.old.book ≡ nodes.now }
     requires ready { IsReady seat.old.view room.old }
-    ensures told { (seat.new.book ≡ seat.old.book) × (seat.new.id ≡ seat.old.id)
-        × IsReady seat.new.view room.new
-        × (seat.new.view.client.seen ≡ seat.old.view.client.seen) }
+    ensures book { seat.new.book ≡ seat.old.book }
+    ensures id { seat.new.id ≡ seat.old.id }
+    ensures ready { IsReady seat.new.view room.new }
+    ensures seen { seat.new.view.client.seen ≡ seat.old.view.client.seen }
 {
     if fill != Fill::Few {
         return;

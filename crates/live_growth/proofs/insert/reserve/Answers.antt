@@ -13,4 +13,4 @@ returns c =
     let g = c.in-Some.grown in
     let some : c.in_ok-grown.field-0 ≡ Some g = search rules in
     let got = some_by c.in_ok-grown.field-0 g some (λ x. (512 ≤ x.count) × (x.count ≤ keys) × (x.start < 2 ^ 62) × (w ≡ given v x.start keys)) c.in_ok-grown.ensures.room in
-    record { told = (c.grow.ensures.seat.0, c.grow.ensures.seat.1, ready_given v w c.args.room.now g.start g.count keys got.1 c.requires.ready got.3, ap (λ (z : SeatView View). z.client.seen) got.3) }
+    record { book = c.grow.ensures.seat.0; id = c.grow.ensures.seat.1; ready = ready_given v w c.args.room.now g.start g.count keys got.1 c.requires.ready got.3; seen = ap (λ (z : SeatView View). z.client.seen) got.3 }

@@ -18,7 +18,7 @@ use Rattle.live_scans.proofs.gaps.first_byte.Goals.{After-enter, After-index-wor
 
 module _ (g : Over) (c : After-enter g) where
   since : SeesMore c.enter.new.seat.view.client.seen c.args.seat.now.id c.args.seat.now.view.client.seen
-  since = seen_equal c.args.seat.now.id c.args.seat.now.view c.enter.new.seat.view c.enter.ensures.told.3
+  since = seen_equal c.args.seat.now.id c.args.seat.now.view c.enter.new.seat.view c.enter.ensures.seen
 
 -- THE NODE is open, and its words were read
 module _ (g : Over) (c : After-index-words-0 g) where
@@ -29,19 +29,19 @@ module _ (g : Over) (c : After-index-words-0 g) where
       (first_word (place_at o.names.spot) c.enter.new.seat.book c.in_ok-here.here.words.now o.opened.are first first (sym c.index-words-0.is)).0
 
   book : c.nearest-found.new.seat.book ≡ c.args.seat.now.book
-  book = ap (λ s. s.book) c.nearest-found.ensures.seat.others ∙ c.enter.ensures.told.0
+  book = ap (λ s. s.book) c.nearest-found.ensures.seat.others ∙ c.enter.ensures.book
 
   id : c.nearest-found.new.seat.id ≡ c.args.seat.now.id
-  id = ap (λ s. s.id) c.nearest-found.ensures.seat.others ∙ c.enter.ensures.told.1
+  id = ap (λ s. s.id) c.nearest-found.ensures.seat.others ∙ c.enter.ensures.id
 
 pub returns-in_err-here : goal.returns-in_err-here
 returns-in_err-here g c =
-    let t = c.enter.ensures.told in
+    let t = c.enter.ensures in
     let out : c.from_residual.result ≡ None = search rules in
     record {
-      book = t.0;
-      id = t.1;
-      keeps = t.2;
+      book = t.book;
+      id = t.id;
+      keeps = t.keeps;
       seen = since g (goal.at.returns-in_err-here g c).After-enter;
       none = when_out (λ b. HasNone c.args.seat.now.id c.args.seat.now.view c.enter.new.seat.view (IsUpTo c.args.height c.args.key b)) c.from_residual.result out;
     }
@@ -68,15 +68,15 @@ returns-then-not-check g c =
     let v = c.args.seat.now.view in
     let u = c.enter.new.seat.view in
     let w = c.check.new.seat.view in
-    let entered = c.enter.ensures.told in
-    let tells = c.check.ensures.told in
+    let entered = c.enter.ensures in
+    let tells = c.check.ensures.checked in
     let seat = c.check.ensures.seat in
     let missed = whole_missed u c.enter.new.seat.book c.in_ok-here.here.words.now c.in_ok-here.here.taken c.args.name c.args.key c.args.height c.in_ok-here.ensures.open c.nearest-found.new.seat.view (ap (λ s. s.view) c.nearest-found.ensures.seat.others) c.index-words-0.result.key (at_word g d) g.A.Asks.ask.caller w tells.0 tells.2 (search rules) in
     record {
       book = seat.0 ∙ book g d;
       id = seat.1 ∙ id g d;
-      keeps = keeps_then v u w entered.2 missed.0;
-      seen = seen_equal c.args.seat.now.id v w (ap (λ (z : View). z.seen) missed.1 ∙ entered.3);
+      keeps = keeps_then v u w entered.keeps missed.0;
+      seen = seen_equal c.args.seat.now.id v w (ap (λ (z : View). z.seen) missed.1 ∙ entered.seen);
       none = tt;
     }
 
@@ -92,8 +92,8 @@ returns g c =
     let t = c.in_ok-here.here.taken in
     let o = c.in_ok-here.ensures.open in
     let spot = o.names.spot in
-    let entered = c.enter.ensures.told in
-    let tells = c.check.ensures.told in
+    let entered = c.enter.ensures in
+    let tells = c.check.ensures.checked in
     let seat = c.check.ensures.seat in
     let before = since g at.After-enter in
     let hit = whole_hit u c.enter.new.seat.book c.in_ok-here.here.words.now t c.args.name c.args.key c.args.height o v₂ (ap (λ s. s.view) c.nearest-found.ensures.seat.others) c.index-words-0.result.key (at_word g d) g.A.Asks.ask.caller w tells.0 tells.2 (search rules) (λ content agrees. subst (λ z. Agree content (last_saw z)) o.opened.reads (c.nearest-found.ensures.kept content agrees)) in
@@ -104,7 +104,7 @@ returns g c =
     record {
       book = seat.0 ∙ book g d;
       id = seat.1 ∙ id g d;
-      keeps = keeps_then v u w entered.2 hit.0;
+      keeps = keeps_then v u w entered.keeps hit.0;
       seen = more_then me v.client.seen u.client.seen w.client.seen before x.fits;
       none = nones_since me v u w (IsUpTo c.args.height c.args.key) c.byte_after.result before (has_none_up_to me u w c.args.name c.args.key c.args.height o.names t (last_saw v₂.reads) x c.byte_at-byte.result c.nearest-found.result c.byte_after.result c.byte_at-byte.ensures near c.byte_after.ensures);
     }

@@ -24,16 +24,16 @@ not_true h = search rules
 -- HOW THE KEY LEAVES was read
 module _ (g : Over) (c : After-watch g) where
   book : c.watch.new.seat.book ≡ c.args.seat.now.book
-  book = c.watch.ensures.told.0 ∙ c.enter.ensures.told.0
+  book = c.watch.ensures.book ∙ c.enter.ensures.book
 
   id : c.watch.new.seat.id ≡ c.args.seat.now.id
-  id = c.watch.ensures.told.1 ∙ c.enter.ensures.told.1
+  id = c.watch.ensures.id ∙ c.enter.ensures.id
 
   keeps : Keeps c.args.seat.now.view c.watch.new.seat.view
-  keeps = keeps_then c.args.seat.now.view c.enter.new.seat.view c.watch.new.seat.view c.enter.ensures.told.2 c.watch.ensures.told.2
+  keeps = keeps_then c.args.seat.now.view c.enter.new.seat.view c.watch.new.seat.view c.enter.ensures.keeps c.watch.ensures.keeps
 
   seen : c.watch.new.seat.view.client.seen ≡ c.args.seat.now.view.client.seen
-  seen = c.watch.ensures.told.3 ∙ c.enter.ensures.told.3
+  seen = c.watch.ensures.seen ∙ c.enter.ensures.seen
 
   since : SeesMore c.watch.new.seat.view.client.seen c.args.seat.now.id c.args.seat.now.view.client.seen
   since = seen_equal c.args.seat.now.id c.args.seat.now.view c.watch.new.seat.view seen
@@ -48,17 +48,17 @@ module _ (g : Over) (c : In-Some-watch g) where
 
 pub returns-in_default : goal.returns-in_default
 returns-in_default g c =
-    let e = c.enter.ensures.told in
+    let e = c.enter.ensures in
     record {
-      book = e.0;
-      id = e.1;
-      keeps = e.2;
-      seen = seen_equal c.args.seat.now.id c.args.seat.now.view c.enter.new.seat.view e.3;
+      book = e.book;
+      id = e.id;
+      keeps = e.keeps;
+      seen = seen_equal c.args.seat.now.id c.args.seat.now.view c.enter.new.seat.view e.seen;
       aside = λ h. absurd (not_true h);
     }
 
 pub watch-requires-clause-below : goal.watch-requires-clause-below
-watch-requires-clause-below g c = sights_kept c.args.seat.now.view c.enter.new.seat.view c.enter.ensures.told.2 c.args.mismatch.below c.requires.leaves.sighted
+watch-requires-clause-below g c = sights_kept c.args.seat.now.view c.enter.new.seat.view c.enter.ensures.keeps c.args.mismatch.below c.requires.leaves.sighted
 
 pub returns-in_default-watch : goal.returns-in_default-watch
 returns-in_default-watch g c =
@@ -101,7 +101,7 @@ returns g c =
     let words = c.in-Some.here.words.now in
     let t = c.in-Some.here.taken in
     let k = (get_or words 0 c.index-here-0.result).key in
-    let tells = c.check.ensures.told in
+    let tells = c.check.ensures.checked in
     let seat = c.check.ensures.seat in
     let its = seat.0 ∙ book g at.After-watch in
     let same = seat.1 ∙ id g at.After-watch in

@@ -16,17 +16,17 @@ use Rattle.live_scans.proofs.seek.seek_down.Goals.{After-step, After-gap, After-
 -- A STEP was made
 module _ (g : Over) (c : After-step g) where
   kept : Keeps c.args.seat.now.view c.step.new.seat.view
-  kept = keeps_then c.args.seat.now.view c.loop-step.seat.view c.step.new.seat.view c.loop-step.invariant.keeps c.step.ensures.told.2
+  kept = keeps_then c.args.seat.now.view c.loop-step.seat.view c.step.new.seat.view c.loop-step.invariant.keeps c.step.ensures.keeps
 
   -- it saw no more
   stays : c.step.new.seat.view.client.seen ≡ c.loop-step.seat.view.client.seen → Stays c.args.seat.now.book c.step.new.seat.book c.args.seat.now.id c.step.new.seat.id c.args.seat.now.view c.step.new.seat.view
   stays none =
       let i = c.loop-step.invariant in
-      let t = c.step.ensures.told in
-      (t.0 ∙ i.book, t.1 ∙ i.id, kept, seen_equal c.args.seat.now.id c.args.seat.now.view c.step.new.seat.view (none ∙ i.seen))
+      let t = c.step.ensures in
+      (t.book ∙ i.book, t.id ∙ i.id, kept, seen_equal c.args.seat.now.id c.args.seat.now.view c.step.new.seat.view (none ∙ i.seen))
 
   named : Names c.step.new.seat.view c.loop-step.at.name c.args.position.key c.loop-step.at.height
-  named = names_kept c.loop-step.seat.view c.step.new.seat.view c.loop-step.at.name c.args.position.key c.loop-step.at.height c.step.ensures.told.2 c.loop-step.invariant.node.names
+  named = names_kept c.loop-step.seat.view c.step.new.seat.view c.loop-step.at.name c.args.position.key c.loop-step.at.height c.step.ensures.keeps c.loop-step.invariant.node.names
 
   -- the position is one later, too
   position : (w : SeatView View) → Keeps c.step.new.seat.view w → IsPosition w c.loop-step.at
@@ -77,25 +77,25 @@ pub returns-in_err-here : goal.returns-in_err-here
 returns-in_err-here g c =
     let u = c.args.seat.now.view in
     let id = c.args.seat.now.id in
-    let entered = c.enter.ensures.told in
+    let entered = c.enter.ensures in
     let a = c.enter.new.seat.view in
     let out : c.from_residual.result ≡ None = search rules in
     record {
-      book = entered.0;
-      id = entered.1;
-      keeps = entered.2;
-      seen = seen_equal id u a entered.3;
+      book = entered.book;
+      id = entered.id;
+      keeps = entered.keeps;
+      seen = seen_equal id u a entered.seen;
       position = when_out (λ s. IsPosition a s.position) c.from_residual.result out;
       reaches = when_out (λ s. Reaches id u a c.args.position.key s.reach) c.from_residual.result out;
     }
 
 pub loop-step-init : goal.loop-step-init
 loop-step-init g c =
-    let entered = c.enter.ensures.told in record {
-      book = entered.0;
-      id = entered.1;
-      keeps = entered.2;
-      seen = entered.3;
+    let entered = c.enter.ensures in record {
+      book = entered.book;
+      id = entered.id;
+      keeps = entered.keeps;
+      seen = entered.seen;
       low = c.requires.position.0;
       high = c.requires.position.1;
       key = refl;
@@ -208,7 +208,7 @@ pub loop-step-preserved : goal.loop-step-preserved
 loop-step-preserved g c =
     let i = c.loop-step.invariant in
     let w = c.step.new.seat.view in
-    let t = c.step.ensures.told in
+    let t = c.step.ensures in
     let Ends = Ended g.A.Asks.reads g.A.Asks.ask None in
     let next = c.in_ok-step.ensures.next in
     let goes : c.in_ok-step.step.next ≡ nexts.Goes c.in-Goes.below c.in-Goes.lower = search rules in
@@ -216,8 +216,8 @@ loop-step-preserved g c =
     let some = gone.2 in
     let below = gone.3 in
     let high = i.high in record {
-      book = t.0 ∙ i.book;
-      id = t.1 ∙ i.id;
+      book = t.book ∙ i.book;
+      id = t.id ∙ i.id;
       keeps = kept g (goal.at.loop-step-preserved g c).After-step;
       seen = gone.0 ∙ i.seen;
       low = omega (arith, some, c.if-lower-eq1.false);

@@ -12,12 +12,12 @@ added v ns n Bool.false all one = all
 
 pub returns-clause-seat : goal.returns-clause-seat
 returns-clause-seat c =
-    let t = c.inform.ensures.told in
+    let t = c.inform.ensures.informs in
     (c.inform.ensures.first.0, c.inform.ensures.first.1, keeps_more c.args.seat.now.view c.args.self.now.keeper.view c.inform.new.a.view t.0, ap (λ (v : SeatView View). v.client.seen) t.0)
 
 pub returns-clause-free_list : goal.returns-clause-free_list
 returns-clause-free_list c =
-    let t = c.inform.ensures.told in
+    let t = c.inform.ensures.informs in
     let v = c.args.seat.now.view in
     let w = c.args.self.now.keeper.view in
     let u = c.inform.new.b.view in (
