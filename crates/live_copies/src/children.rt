@@ -1,6 +1,6 @@
 //! The children of a node, as a reader finds them.
 ghost use Rattle.std.specs.Prelude.{◌≡◌, ◌<◌, ◌≤◌, IfSome};
-ghost use Rattle.live_law.specs.Levels.{up, digit};
+ghost use Rattle.live_nodes.specs.Levels.{up, digit};
 ghost use Rattle.live_reads.specs.Paths.{Names, Sights, Keeps};
 ghost use Rattle.live_copies.specs.inner.Children.{IsChild, IsFound};
 

@@ -5,7 +5,7 @@ ghost use Rattle.live_copies.specs.inner.Locks.{HasLocks, Grows, HasTaken, Takes
 
 use crate::locks::{Work, lock_noted};
 use live_growth::map::Refusal;
-use live_law::law::{MapLaw, MapView};
+use live_nodes::map_law::{MapLaw, MapView};
 use live_layout::form::{form_below, words_in};
 use live_layout::page::{Part, fill};
 use live_layout::words::AsReadWords;

@@ -1,6 +1,6 @@
 //! The nodes that a copy has locked, one after the other.
 ghost use Rattle.std.specs.Prelude.{◌≡◌, ◌%◌, ◌<◌, ◌^◌, [], drop, List, IfOk, IfSome, IfNone};
-ghost use Rattle.live_law.specs.Views.{rest_of};
+ghost use Rattle.live_nodes.specs.Views.{rest_of};
 ghost use Rattle.live_reads.specs.Paths.{Names, AreNamed};
 ghost use Rattle.live_growth.specs.Holds.{Alike, HasLocked};
 ghost use Rattle.live_copies.specs.declared.locks.Lock.{Lock};
@@ -8,7 +8,7 @@ ghost use Rattle.live_copies.specs.inner.Locks.{IsTop, HasLocks, Grows, HasTaken
 
 use live_growth::held::lock_node;
 use live_growth::map::Refusal;
-use live_law::law::{MapLaw, MapView, Same};
+use live_nodes::map_law::{MapLaw, MapView, Same};
 use live_nodes::node;
 use live_reads::path::{Cell, Nodes, Seat, words_at};
 

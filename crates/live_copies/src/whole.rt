@@ -4,7 +4,7 @@ ghost use Rattle.live_reads.specs.Paths.{KnowsRootWord, Keeps};
 ghost use Rattle.live_copies.specs.inner.Whole.{HasWhole};
 
 use crate::on_check::Whole;
-use live_law::law::{Asks, MapLaw, MapView};
+use live_nodes::map_law::{Asks, MapLaw, MapView};
 use live_nodes::node;
 use live_reads::path::{Nodes, Seat};
 

@@ -3,7 +3,7 @@ ghost use Rattle.std.specs.Prelude.{◌≡◌, ◌<◌, ◌≤◌, [], length, I
 ghost use Rattle.live_layout.specs.Words.{Looks};
 ghost use Rattle.live_layout.specs.Encodes.{words_of};
 ghost use Rattle.live_nodes.specs.Seats.{SeatView};
-ghost use Rattle.live_law.specs.Views.{View};
+ghost use Rattle.live_nodes.specs.Views.{View};
 ghost use Rattle.live_reads.specs.Paths.{Sights};
 ghost use Rattle.live_reads.specs.Positions.{KnowsPosition};
 ghost use Rattle.live_growth.specs.FreeNodes.{HasFreeNodes, Lacks};
@@ -14,7 +14,7 @@ use crate::free_nodes::FreeNodes;
 use crate::held::reclaim;
 use crate::replace::{Enlarges, Reclaimed, replace};
 use crate::two::{lock_two, unlock_two};
-use live_law::law::Asks;
+use live_nodes::map_law::Asks;
 use live_layout::form::{form_below, place_of, slot_below, words_in};
 use live_layout::search::find;
 use live_layout::words::{AsReadWords, WriteWords};

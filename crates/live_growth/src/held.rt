@@ -4,12 +4,12 @@ ghost use Rattle.word_book.specs.Book.{writes, none_joined};
 ghost use Rattle.live_nodes.specs.Nodes.{Content};
 ghost use Rattle.live_nodes.specs.Plays.{Frees};
 ghost use Rattle.live_nodes.specs.Calls.{MayFree};
-ghost use Rattle.live_law.specs.Levels.{Spot};
-ghost use Rattle.live_law.specs.Tree.{IsMap, LinksAgain};
+ghost use Rattle.live_nodes.specs.Levels.{Spot};
+ghost use Rattle.live_nodes.specs.Tree.{IsMap, LinksAgain};
 ghost use Rattle.live_reads.specs.Paths.{Names, Sights, AreNamed, IsOpen};
 ghost use Rattle.live_growth.specs.Holds.{Alike, HasLocked, HasLockedOpen, HasReclaimed, HoldsOne, HasRest};
 
-use live_law::law::{Again, Asks, Fills, Locked, MapLaw, MapView, Reclaimed, Same};
+use live_nodes::map_law::{Again, Asks, Fills, Locked, MapLaw, MapView, Reclaimed, Same};
 use live_layout::words::ReadWords;
 use live_nodes::node;
 use live_nodes::rows::SharedWords;

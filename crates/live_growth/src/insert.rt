@@ -1,6 +1,6 @@
 //! An insertion.
 ghost use Rattle.std.specs.Prelude.{◌≡◌, ◌<◌, ◌≤◌, Some, IfSome, IfOk};
-ghost use Rattle.live_law.specs.Views.{ask};
+ghost use Rattle.live_nodes.specs.Views.{ask};
 ghost use Rattle.live_reads.specs.Paths.{Names, IsOpen, Keeps};
 ghost use Rattle.live_reads.specs.Positions.{KnowsPosition, HasMismatch};
 ghost use Rattle.live_growth.specs.Rooms.{HasGrown};

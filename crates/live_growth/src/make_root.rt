@@ -3,7 +3,7 @@ ghost use Rattle.std.specs.Prelude.{◌≡◌, ◌%◌, ◌<◌, ◌≤◌, ◌^
 ghost use Rattle.live_nodes.specs.Nodes.{Content};
 ghost use Rattle.live_nodes.specs.Seats.{SeatView, place};
 ghost use Rattle.live_nodes.specs.Rows.{AreOf};
-ghost use Rattle.live_law.specs.Views.{View};
+ghost use Rattle.live_nodes.specs.Views.{View};
 ghost use Rattle.live_reads.specs.Paths.{KnowsRootWord, Sights};
 ghost use Rattle.live_growth.specs.FreeNodes.{HasFreeNodes};
 ghost use Rattle.live_growth.specs.Holds.{Alike, HasRest, HasRootWord, HoldsRootWord};
@@ -14,7 +14,7 @@ use crate::free_nodes::FreeNodes;
 use crate::held::{reclaim, unlock_again};
 use crate::link::Room;
 use crate::room::make_node;
-use live_law::law::{Asks, MapLaw, MapView, RootWordLocked, Same};
+use live_nodes::map_law::{Asks, MapLaw, MapView, RootWordLocked, Same};
 use live_layout::fill::lay;
 use live_layout::form::form_below;
 use live_layout::words::WriteWords;

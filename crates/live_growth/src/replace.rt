@@ -9,7 +9,7 @@ ghost use Rattle.live_growth.specs.Three.{HasThree};
 use crate::held::unlock_again;
 use crate::source::Source;
 use crate::two::Two;
-use live_law::law::{Asks, MapLaw, MapView, Same};
+use live_nodes::map_law::{Asks, MapLaw, MapView, Same};
 use live_layout::change::change;
 use live_layout::fill::grow_to;
 use live_layout::form::{form_below, word_below};

@@ -1,7 +1,7 @@
 //! A key leaves the path of a node: a new node comes above that, where both paths part.
 ghost use Rattle.std.specs.Prelude.{◌≡◌, ◌<◌, ◌≤◌, [], IsTrue};
 ghost use Rattle.live_nodes.specs.Seats.{SeatView};
-ghost use Rattle.live_law.specs.Views.{View};
+ghost use Rattle.live_nodes.specs.Views.{View};
 ghost use Rattle.live_reads.specs.Paths.{Names, Sights, Leaves};
 ghost use Rattle.live_growth.specs.FreeNodes.{HasFreeNodes, Lacks};
 ghost use Rattle.live_growth.specs.Rooms.{HasGrown};
@@ -9,7 +9,7 @@ ghost use Rattle.live_growth.specs.Rooms.{HasGrown};
 use crate::free_nodes::FreeNodes;
 use crate::grow_node::leads_to;
 use crate::held::{lock_node, reclaim, unlock_again, unlock_same};
-use live_law::law::{Asks, MapLaw, MapView, Same};
+use live_nodes::map_law::{Asks, MapLaw, MapView, Same};
 use live_layout::change::{change, put};
 use live_layout::fill::lay;
 use live_layout::form::{form_below, word_below};

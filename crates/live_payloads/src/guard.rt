@@ -2,12 +2,12 @@
 ghost use Rattle.std.specs.Prelude.{◌≡◌, ◌≢◌, ℕ, Some, IfOk, IfErr};
 ghost use mathlib.Core.List.{IsPrefix};
 ghost use Rattle.live_reads.specs.Meetings.{SeenMore};
-ghost use Rattle.live_slots.specs.Tickets.{HasIssued};
+ghost use Rattle.word_slots.specs.Tickets.{HasIssued};
 ghost use Rattle.live_payloads.specs.Payloads.{KnowsMore};
 
 use live_growth::map::Guard;
-use live_slots::lent::Lent;
-use live_slots::log::{SeenLog, agree};
+use word_slots::lent::Lent;
+use word_slots::log::{SeenLog, agree};
 use std::marker::Model;
 use std::sync::Wait;
 

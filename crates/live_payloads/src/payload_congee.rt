@@ -1,8 +1,8 @@
 //! `PayloadCongee`, the map from keys to payloads that threads read without a lock, and `CongeeArc`.
 //!
-//! Tested in `test_live_slots`.
+//! Tested in `test_word_slots`.
 ghost use Rattle.std.specs.Prelude.{◌≡◌, ◌^◌, ◌-◌, ℕ, [], Some, IfOk, IfErr, IfSome, IfNone, OnErr};
-ghost use Rattle.live_slots.specs.Tickets.{HasIssued, IsNew};
+ghost use Rattle.word_slots.specs.Tickets.{HasIssued, IsNew};
 ghost use Rattle.live_payloads.specs.Payloads.{IsGuardOf, KnowsMore, IsLoan, LookedInVain, GetsPayload};
 
 mod closures;
@@ -21,9 +21,9 @@ use crate::guard::PayloadGuard;
 use crossbeam_utils::Backoff;
 use live_growth::map::{Busy, Refusal, TRIES};
 use live_pool::pool::Pool;
-use live_slots::lent::Lent;
-use live_slots::log::agree;
-use live_slots::slots::{Lack, Slots};
+use word_slots::lent::Lent;
+use word_slots::log::agree;
+use word_slots::slots::{Lack, Slots};
 use spec_map::error::OOMError;
 use spec_map::traits::Word;
 use std::alloc::Global;

@@ -8,7 +8,7 @@ use crate::last_leaf::LastLeaf;
 use crate::mismatch::ends_above;
 use crate::path::{Nodes, Seat, look, open, root};
 use crate::prefix_match::{Next, step};
-use live_law::law::Asks;
+use live_nodes::map_law::Asks;
 
 /// The value of a key. Its leaf is the last one then, as one below the root: the node above isn't kept. `None` where a writer came in
 /// between.

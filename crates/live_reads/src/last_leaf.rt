@@ -2,7 +2,7 @@
 //! the leaf since.
 ghost use Rattle.std.specs.Prelude.{◌≡◌, IfSome};
 ghost use Rattle.live_nodes.specs.Seats.{SeatView};
-ghost use Rattle.live_law.specs.Views.{View};
+ghost use Rattle.live_nodes.specs.Views.{View};
 ghost use Rattle.live_reads.specs.Paths.{IsOpen, Keeps};
 ghost use Rattle.live_reads.specs.Positions.{KnowsPosition, KnowsLast};
 

@@ -4,7 +4,7 @@ ghost use Rattle.live_nodes.specs.Plays.{Meets};
 ghost use Rattle.live_reads.specs.Meetings.{HaveMet};
 
 use crate::path::Seat;
-use live_law::law::{MapLaw, MapView};
+use live_nodes::map_law::{MapLaw, MapView};
 use live_nodes::plays::OnMeet;
 use live_nodes::room;
 use std::marker::{Brand, PhantomData};

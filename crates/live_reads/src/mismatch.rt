@@ -1,13 +1,13 @@
 //! A node that leads on to one whose path a key leaves: there the key's path ends.
 ghost use Rattle.std.specs.Prelude.{◌≡◌, ◌≤◌, Some, None, false, IfSome, IsTrue};
-ghost use Rattle.live_law.specs.Views.{got};
-ghost use Rattle.live_law.specs.Tree.{Answers};
+ghost use Rattle.live_nodes.specs.Views.{got};
+ghost use Rattle.live_nodes.specs.Tree.{Answers};
 ghost use Rattle.live_reads.specs.Paths.{Sights, IsOpen, Keeps};
 ghost use Rattle.live_reads.specs.Mismatches.{first_number, IsAside, IsAbove, IsParted};
 
 use crate::path::{Nodes, Opened, Seat, byte_at, open};
 use crate::prefix_match::{Mismatch, PrefixMatch, compare, enter};
-use live_law::law::{Above, Asks, Below, MapLaw, MapView, Miss};
+use live_nodes::map_law::{Above, Asks, Below, MapLaw, MapView, Miss};
 use live_layout::form::{form_below, slot_below};
 use live_layout::search::find;
 use live_layout::words::ReadWords;

@@ -1,13 +1,13 @@
 //! The path of a key: from the root word to the root, and from a node to the one below.
 ghost use Rattle.std.specs.Prelude.{◌≡◌, ℕ, ◌-◌, ◌%◌, ◌<◌, ◌≤◌, [], ◌∷◌, length, slice_index, IfSome};
 ghost use Rattle.live_nodes.specs.Seats.{read};
-ghost use Rattle.live_law.specs.Levels.{digit};
-ghost use Rattle.live_law.specs.Roots.{MayLearnRoot};
+ghost use Rattle.live_nodes.specs.Levels.{digit};
+ghost use Rattle.live_nodes.specs.Roots.{MayLearnRoot};
 ghost use Rattle.live_reads.specs.Paths.{KnowsRootWord, Names, Sights, AreNamed, HasOpened, IsOpen, Keeps, Looked};
 ghost use Rattle.live_reads.specs.Roots.{SeesRoot, Begins};
 
-use live_law::law::{Asks, Look, MapLaw, MapView};
-use live_law::roots::{Root, Sees};
+use live_nodes::map_law::{Asks, Look, MapLaw, MapView};
+use live_nodes::roots::{Root, Sees};
 use live_layout::form::{form_below, slot_below, words_in};
 use live_layout::search::find;
 use live_nodes::heap::Heap;

@@ -3,12 +3,12 @@ ghost use Rattle.std.specs.Prelude.{◌≡◌, ◌≢◌, ℕ, ◌+◌, ◌-◌,
 ghost use Rattle.std.specs.Int.{bit_at};
 ghost use Rattle.live_layout.specs.Words.{lane};
 ghost use Rattle.live_layout.specs.Head.{IsHead};
-ghost use Rattle.live_law.specs.Levels.{digit};
+ghost use Rattle.live_nodes.specs.Levels.{digit};
 ghost use Rattle.live_reads.specs.Paths.{Sights, Leaves, IsOpen, Keeps, Ended};
 ghost use Rattle.live_reads.specs.Sees.{Sees, HasMet, Follows, IsNextOpen};
 
 use crate::path::{Nodes, Opened, Seat, look, open};
-use live_law::law::{Asks, Head, MapLaw, MapView};
+use live_nodes::map_law::{Asks, Head, MapLaw, MapView};
 use live_layout::form::slot_below;
 use live_layout::head::prefix_len;
 use live_layout::lanes::lane_of;

@@ -4,9 +4,9 @@ use Rattle.spec_map.specs.Map.{lookup}
 use Rattle.spec_node.specs.TableNode.{Child}
 use Rattle.live_nodes.specs.Seats.{SeatView}
 use Rattle.live_layout.specs.Order.{HasNearest}
-use Rattle.live_law.specs.Levels.{up, digit}
-use Rattle.live_law.specs.Views.{View}
-use Rattle.live_law.proofs.Plans.{up-up}
+use Rattle.live_nodes.specs.Levels.{up, digit}
+use Rattle.live_nodes.specs.Views.{View}
+use Rattle.live_nodes.proofs.Plans.{up-up}
 use Rattle.live_reads.specs.Paths.{Names}
 use Rattle.live_scans.specs.inner.Moments.{HasUnder, IsRead, HasNone, IsBeside, IsPassed}
 use Rattle.live_scans.proofs.Uppers.{up-rises}

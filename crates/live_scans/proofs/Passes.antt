@@ -9,7 +9,7 @@ use Rattle.share_rule.specs.History.{Entry}
 use Rattle.word_book.specs.Book.{Book}
 use Rattle.live_nodes.specs.Seats.{SeatView}
 use Rattle.live_layout.specs.Order.{IsFrom}
-use Rattle.live_law.specs.Views.{View, Ask}
+use Rattle.live_nodes.specs.Views.{View, Ask}
 use Rattle.live_reads.specs.Paths.{Ended, Keeps}
 use Rattle.live_reads.specs.Sees.{Follows}
 use Rattle.live_reads.specs.declared.prefix_match.Next.{Next}

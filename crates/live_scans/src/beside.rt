@@ -11,7 +11,7 @@ use crate::keys::last_of;
 use crate::leaf::read_leaf;
 use crate::next::{Lower, is_still};
 use crate::position::Position;
-use live_law::law::{Above, Asks, Below, MapLaw, MapView};
+use live_nodes::map_law::{Above, Asks, Below, MapLaw, MapView};
 use live_layout::page::RangeEntry;
 use live_nodes::node;
 use live_reads::path::{Opened, Seat};

@@ -1,13 +1,13 @@
 //! Keys before one that are absent, where the path of a reader downwards ends above a leaf.
 ghost use Rattle.std.specs.Prelude.{◌≡◌, ◌≢◌, ℕ, ◌%◌, ◌<◌, ◌≤◌, false, IfSome, IsTrue};
-ghost use Rattle.live_law.specs.Levels.{digit};
+ghost use Rattle.live_nodes.specs.Levels.{digit};
 ghost use Rattle.live_reads.specs.Paths.{Names, Leaves, Keeps};
 ghost use Rattle.live_scans.specs.inner.Moments.{SeesMore, HasNone, IsBeside, IsPassed};
 ghost use Rattle.live_scans.specs.inner.Gaps.{IsByteAfter, IsUpTo};
 
 use crate::keys::first_of;
 use crate::on_check::Whole;
-use live_law::law::{Asks, MapLaw, MapView};
+use live_nodes::map_law::{Asks, MapLaw, MapView};
 use live_layout::form::form_below;
 use live_layout::nearest::nearest;
 use live_nodes::node;

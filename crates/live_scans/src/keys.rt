@@ -1,6 +1,6 @@
 //! Keys as numbers: the first and the last one with given upper bytes.
 ghost use Rattle.std.specs.Prelude.{◌≡◌, ◌+◌, ◌-◌, ◌*◌, ◌^◌, ◌<◌, ◌≤◌};
-ghost use Rattle.live_law.specs.Levels.{up};
+ghost use Rattle.live_nodes.specs.Levels.{up};
 
 /// How many keys a node of this height has.
 pub fn span(height: usize) -> u64

@@ -3,7 +3,7 @@ ghost use Rattle.std.specs.Prelude.{◌≡◌, ℕ, ◌+◌, ◌-◌, ◌*◌, �
 ghost use Rattle.spec_node.specs.declared.child.Child.TheVariants.{Node};
 ghost use Rattle.live_layout.specs.Encodes.{IsWord};
 ghost use Rattle.live_layout.specs.Page.{pairs_of};
-ghost use Rattle.live_law.specs.Levels.{up, digit};
+ghost use Rattle.live_nodes.specs.Levels.{up, digit};
 ghost use Rattle.live_reads.specs.Paths.{Names, Sights, Keeps};
 ghost use Rattle.live_reads.specs.Mismatches.{first_number};
 ghost use Rattle.live_scans.specs.inner.Moments.{SeesMore, HasNone, IsPassed};
@@ -16,7 +16,7 @@ use crate::bound::{Request, Step};
 use crate::keys::{floor_of, last_of, upper};
 use crate::on_check::Whole;
 use crate::position::{NodeWords, Position, open_known};
-use live_law::law::{Above, Asks, Below, Head, Look, MapLaw, MapView};
+use live_nodes::map_law::{Above, Asks, Below, Head, Look, MapLaw, MapView};
 use live_layout::form::{form_below, slot_below};
 use live_layout::page::RangeEntry;
 use live_layout::words::ReadWords;

@@ -14,7 +14,7 @@ use crate::next::{Visit, visit_node};
 use crate::position::{PathNode, Position, Trail, know};
 use crate::seek::{Reach, begin, seek_down};
 use live_growth::map::TRIES;
-use live_law::law::Asks;
+use live_nodes::map_law::Asks;
 use live_layout::page::RangeEntry;
 use live_reads::last_leaf::LastLeaf;
 use live_reads::path::{Nodes, Seat};

@@ -1,6 +1,6 @@
 //! The path of a reader: where it begins, and downwards from a node to a leaf.
 ghost use Rattle.std.specs.Prelude.{◌≡◌, ◌≤◌, false, IfSome};
-ghost use Rattle.live_law.specs.Levels.{up};
+ghost use Rattle.live_nodes.specs.Levels.{up};
 ghost use Rattle.live_scans.specs.inner.Moments.{SeesMore};
 ghost use Rattle.live_reads.specs.Paths.{KnowsRootWord, Keeps};
 ghost use Rattle.live_scans.specs.inner.Stops.{IsPosition, IsTrail, Starts, Reaches};
@@ -9,7 +9,7 @@ use crate::gaps::{around, gap};
 use crate::keys::upper;
 use crate::position::{PathNode, Position, Trail};
 use live_growth::map::TRIES;
-use live_law::law::Asks;
+use live_nodes::map_law::Asks;
 use live_reads::path::{Nodes, Seat, root, root_begun};
 use live_reads::prefix_match::{Next, enter, step};
 

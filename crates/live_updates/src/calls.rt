@@ -1,7 +1,7 @@
 //! Removals and exchanges.
 ghost use Rattle.std.specs.Prelude.{◌≡◌, IfOk, IfSome, OnErr};
 ghost use Rattle.std.specs.Option.{option_map};
-ghost use Rattle.live_law.specs.Known.{MadeCall};
+ghost use Rattle.live_nodes.specs.Known.{MadeCall};
 ghost use Rattle.live_growth.specs.Calls.{IsReady};
 ghost use Rattle.live_updates.specs.Entries.{removed, swapped};
 ghost use Rattle.live_updates.specs.inner.Lookups.{swap_of, EndsBy};

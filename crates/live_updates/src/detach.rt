@@ -8,7 +8,7 @@ ghost use Rattle.live_updates.specs.Two.{PartsTwo};
 use crate::law::Unlink;
 use crate::shrink_node::{Fill, fill_of};
 use live_growth::two::{Two, lock_two, unlock_two};
-use live_law::law::{MapLaw, MapView, Same};
+use live_nodes::map_law::{MapLaw, MapView, Same};
 use live_layout::change::take;
 use live_layout::form::form_below;
 use live_nodes::node;

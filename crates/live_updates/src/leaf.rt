@@ -13,7 +13,7 @@ use crate::shrink_node::{Fill, fill_of, shrink_on_path};
 use crate::tidy::tidy_from;
 use live_growth::held::{lock_open, unlock_same};
 use live_growth::link::Room;
-use live_law::law::{MapLaw, MapView};
+use live_nodes::map_law::{MapLaw, MapView};
 use live_layout::change::{change, is_full, put, take};
 use live_layout::form::{form_below, words_in};
 use live_layout::search::find;

@@ -3,7 +3,7 @@ ghost use Rattle.std.specs.Prelude.{◌≡◌, ℕ, ◌+◌, ◌*◌, ◌%◌, �
 ghost use Rattle.spec_node.specs.TableNode.{TableNode};
 ghost use Rattle.live_layout.specs.Words.{Stays};
 ghost use Rattle.live_layout.specs.Encodes.{words_of, Encodes, empty_node};
-ghost use Rattle.live_law.specs.Levels.{up};
+ghost use Rattle.live_nodes.specs.Levels.{up};
 ghost use Rattle.live_reads.specs.Positions.{KnowsPosition};
 ghost use Rattle.live_growth.specs.Holds.{HasRest};
 ghost use Rattle.live_growth.specs.Calls.{IsReady};
@@ -16,7 +16,7 @@ use crate::tidy::tidy_from;
 use live_growth::held::{lock_open, unlock_same};
 use live_growth::link::Room;
 use live_growth::map::{Congee, Guard};
-use live_law::law::{MapLaw, MapView};
+use live_nodes::map_law::{MapLaw, MapView};
 use live_layout::form::{form_below, room_of, words_in};
 use live_layout::page::{Part, fill};
 use live_layout::words::{AsReadWords, WriteWords};

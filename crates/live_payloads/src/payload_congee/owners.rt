@@ -3,7 +3,7 @@ ghost use Rattle.std.specs.Prelude.{◌≡◌, Some, IfOk};
 ghost use Rattle.std.specs.Option.{option_map};
 ghost use Rattle.std.specs.Arc.{arc_value};
 
-use live_slots::lent::Lent;
+use word_slots::lent::Lent;
 use std::alloc::AllocError;
 use std::sync::Arc;
 

@@ -1,6 +1,6 @@
 -- Keys before one at which a node has none.
 use Rattle.std.specs.Prelude.{◌≡◌, ℕ, ◌+◌, ◌<◌, ◌≤◌, Option, Some, None}
-use Rattle.live_law.specs.Levels.{up, digit}
+use Rattle.live_nodes.specs.Levels.{up, digit}
 
 -- Nothing was found from that byte on, up to the last one.
 abbrev pub IsByteAfter : Option (ℕ × ℕ) → ℕ → Option ℕ → Type 0

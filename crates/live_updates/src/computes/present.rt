@@ -2,7 +2,7 @@
 //! it was called with. Otherwise it is called again.
 ghost use Rattle.std.specs.Prelude.{◌≡◌, ℕ, IfOk, IfSome, OnErr, unwrap_or};
 ghost use Rattle.std.specs.Option.{option_map};
-ghost use Rattle.live_law.specs.Known.{MadeCall};
+ghost use Rattle.live_nodes.specs.Known.{MadeCall};
 ghost use Rattle.live_growth.specs.Calls.{IsReady};
 ghost use Rattle.live_updates.specs.inner.Lookups.{EndsBy};
 ghost use Rattle.live_updates.specs.Closures.{Reaches, EndsWithCall};

@@ -1,5 +1,5 @@
 use Rattle.std.proofs.Common.{rules, sym, subst, ap, Some, None, ◌≡◌, ◌∙◌, false}
-use Rattle.live_law.specs.Views.{View, Ask, ask}
+use Rattle.live_nodes.specs.Views.{View, Ask, ask}
 use Rattle.live_reads.specs.Paths.{Sights, Keeps}
 use Rattle.live_reads.proofs.Finds.{keeps_then, looked_below, looked_none, looked_empty}
 use Rattle.live_copies.proofs.children.name_under.Goals as goal

@@ -1,5 +1,5 @@
 use Rattle.std.proofs.Common.{rules, refl, ℕ, subst, ◌≡◌, ◌∙◌}
-use Rattle.live_law.specs.Known.{Known}
+use Rattle.live_nodes.specs.Known.{Known}
 use Rattle.live_growth.specs.Calls.{known_of}
 use Rattle.live_reads.specs.Paths.{Names}
 use Rattle.live_reads.proofs.Finds.{names_kept}

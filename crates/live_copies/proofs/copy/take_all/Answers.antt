@@ -1,7 +1,7 @@
 use Rattle.std.proofs.Common.{rules, ◌≡◌, nat_eq, Err, ap, ◌∙◌}
 use Rattle.share_rule.specs.History.{IsHistory}
 use Rattle.live_nodes.specs.Seats.{place}
-use Rattle.live_law.specs.Views.{View}
+use Rattle.live_nodes.specs.Views.{View}
 use Rattle.live_scans.proofs.Passes.{seen_equal}
 use Rattle.live_scans.proofs.Composed.{more_then}
 use Rattle.live_copies.specs.inner.Locks.{Knows, HasLocks}

@@ -1,9 +1,9 @@
 use Rattle.std.proofs.Common.{sym, ap, refl, arith, drop, List, ◌≡◌, ◌+◌, ◌/◌, ◌∙◌}
 use Rattle.live_nodes.specs.Seats.{SeatView, Hold}
-use Rattle.live_law.specs.Levels.{place_at}
-use Rattle.live_law.specs.Views.{View}
-use Rattle.live_law.specs.Tree.{StaysSame}
-use Rattle.live_law.proofs.Writes.{node_stays}
+use Rattle.live_nodes.specs.Levels.{place_at}
+use Rattle.live_nodes.specs.Views.{View}
+use Rattle.live_nodes.specs.Tree.{StaysSame}
+use Rattle.live_nodes.proofs.Writes.{node_stays}
 use Rattle.live_reads.proofs.Views.{first_word}
 use Rattle.live_growth.proofs.Again.{first_frees, first_freed}
 use Rattle.live_copies.specs.inner.Locks.{own_of, holds_of}

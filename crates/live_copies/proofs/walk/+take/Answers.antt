@@ -2,7 +2,7 @@ use Rattle.std.proofs.Common.{rules, arith, refl, sym, ap, subst, ℕ, ◌<◌, 
 use Rattle.std.proofs.lemmas.List.{get_or-replicate}
 use Rattle.std.proofs.lemmas.Result.{IfOk-weaker}
 use Rattle.spec_map.specs.Map.{Pairs}
-use Rattle.live_law.specs.Views.{Own}
+use Rattle.live_nodes.specs.Views.{Own}
 use Rattle.live_reads.proofs.Sights.{sights_names}
 use Rattle.live_copies.specs.inner.Noted.{HasNoted}
 use Rattle.live_copies.specs.inner.Children.{IsChild, IsFound}

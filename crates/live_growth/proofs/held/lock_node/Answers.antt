@@ -1,7 +1,7 @@
 use Rattle.std.proofs.Common.{rules, arith, sym, ap, subst, ℕ, List, [], ◌≡◌, ◌/◌, ◌%◌, ◌∙◌}
 use Rattle.live_layout.specs.Head.{IsHead}
 use Rattle.live_nodes.specs.Rows.{last_saw, without_reads}
-use Rattle.live_law.specs.Levels.{place_at}
+use Rattle.live_nodes.specs.Levels.{place_at}
 use Rattle.live_reads.specs.Paths.{AreNamed}
 use Rattle.live_reads.specs.Sees.{Sees}
 use Rattle.live_reads.specs.declared.prefix_match.PrefixMatch.TheVariants as prefix_matches

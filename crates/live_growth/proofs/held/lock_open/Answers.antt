@@ -1,5 +1,5 @@
 use Rattle.std.proofs.Common.{rules, arith, sym, ◌≡◌, ◌/◌}
-use Rattle.live_law.specs.Levels.{place_at}
+use Rattle.live_nodes.specs.Levels.{place_at}
 use Rattle.live_growth.specs.Holds.{HasLockedOpen}
 use Rattle.live_reads.proofs.Views.{first_word}
 use Rattle.live_growth.proofs.Locks.{may_lock_open, not_locked_open, is_locked_open}

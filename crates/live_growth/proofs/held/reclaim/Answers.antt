@@ -1,5 +1,5 @@
 use Rattle.std.proofs.Common.{rules, sym, arith, [], ◌≡◌, ◌/◌, ◌%◌, ◌∙◌}
-use Rattle.live_law.specs.Levels.{place_at}
+use Rattle.live_nodes.specs.Levels.{place_at}
 use Rattle.live_reads.proofs.Views.{reading, first_word}
 use Rattle.live_growth.proofs.Locks.{alike_taken}
 use Rattle.live_growth.proofs.Again.{may_reclaim, not_reclaimed, is_reclaimed}

@@ -1,8 +1,8 @@
 use Rattle.std.proofs.Common.{sym, ap, refl, arith, [], ◌+◌, ◌/◌, ◌∙◌}
-use Rattle.live_law.specs.Levels.{place_at}
-use Rattle.live_law.specs.Views.{View, rest_of}
-use Rattle.live_law.specs.Tree.{StaysSame}
-use Rattle.live_law.proofs.Writes.{node_stays}
+use Rattle.live_nodes.specs.Levels.{place_at}
+use Rattle.live_nodes.specs.Views.{View, rest_of}
+use Rattle.live_nodes.specs.Tree.{StaysSame}
+use Rattle.live_nodes.proofs.Writes.{node_stays}
 use Rattle.live_nodes.specs.Seats.{SeatView}
 use Rattle.live_reads.proofs.Views.{first_word}
 use Rattle.live_growth.proofs.Locks.{may_free, is_freed}

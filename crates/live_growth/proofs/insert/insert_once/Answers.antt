@@ -1,6 +1,6 @@
 use Rattle.std.proofs.Common.{◌∙◌}
 use Rattle.live_growth.specs.Calls.{IsReady}
-use Rattle.live_law.specs.Views.{ask}
+use Rattle.live_nodes.specs.Views.{ask}
 use Rattle.live_growth.proofs.Ready.{ready_kept, inserts_not, inserts_from}
 use Rattle.live_growth.proofs.insert.insert_once.Goals as goal
 use Rattle.live_growth.proofs.insert.insert_once.Goals.{After-descend_from}

@@ -2,7 +2,7 @@ use Rattle.std.proofs.Common.{rules, ap, Some, ◌≡◌, ◌<◌, ◌≤◌, �
 use Rattle.word_segments.specs.Segments.{keys}
 use Rattle.live_nodes.specs.Seats.{SeatView}
 use Rattle.live_nodes.specs.Plays.{given}
-use Rattle.live_law.specs.Views.{View}
+use Rattle.live_nodes.specs.Views.{View}
 use Rattle.live_growth.proofs.Ready.{ready_given, some_by}
 use Rattle.live_growth.proofs.insert.reserve.Goals as goal
 

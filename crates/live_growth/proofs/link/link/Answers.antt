@@ -6,11 +6,11 @@ use Rattle.live_nodes.specs.Acts as acts
 use Rattle.live_nodes.specs.Rows.{AreOf, draft_of, nth}
 use Rattle.live_layout.specs.Encodes.{words_of, Encodes, empty_node}
 use Rattle.live_layout.specs.Encodes.{HasRoom as HasSpace}
-use Rattle.live_law.specs.Levels.{up, digit, Spot, place_at}
-use Rattle.live_law.specs.Views.{View, Own, locked, detached}
-use Rattle.live_law.specs.Tree.{IsMap, LinksAgain, StaysSame, again, left_again}
-use Rattle.live_law.proofs.Joins.{link_below}
-use Rattle.live_law.proofs.Writes.{node_stays}
+use Rattle.live_nodes.specs.Levels.{up, digit, Spot, place_at}
+use Rattle.live_nodes.specs.Views.{View, Own, locked, detached}
+use Rattle.live_nodes.specs.Tree.{IsMap, LinksAgain, StaysSame, again, left_again}
+use Rattle.live_nodes.proofs.Joins.{link_below}
+use Rattle.live_nodes.proofs.Writes.{node_stays}
 use Rattle.live_reads.specs.Paths.{AreNamed}
 use Rattle.live_growth.specs.Holds.{Alike, HasLocked, HasReclaimed, HoldsOne}
 use Rattle.live_reads.proofs.Views.{first_word}

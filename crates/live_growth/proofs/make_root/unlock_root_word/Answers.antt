@@ -1,8 +1,8 @@
 use Rattle.std.proofs.Common.{sym, ap, refl, List, ◌+◌, ◌∙◌}
 use Rattle.live_nodes.specs.Seats.{SeatView}
-use Rattle.live_law.specs.Views.{View, Own, rest_of}
-use Rattle.live_law.specs.Tree.{StaysSame}
-use Rattle.live_law.proofs.Writes.{root_word_stays}
+use Rattle.live_nodes.specs.Views.{View, Own, rest_of}
+use Rattle.live_nodes.specs.Tree.{StaysSame}
+use Rattle.live_nodes.proofs.Writes.{root_word_stays}
 use Rattle.live_reads.proofs.Views.{first_word}
 use Rattle.live_growth.proofs.Grips.{grip_frees, grip_freed}
 use Rattle.live_growth.proofs.RootWords.{p, root_word_grips}

@@ -9,11 +9,11 @@ use Rattle.live_nodes.specs.Seats.{SeatView, seat_view, Place, Hold, IsIn, hold}
 use Rattle.live_nodes.specs.Acts as acts
 use Rattle.live_nodes.specs.Rows.{AreOf, draft_of, nth}
 use Rattle.live_layout.specs.Encodes.{words_of, Encodes, IsBelow, IsWord, in_form}
-use Rattle.live_law.specs.Levels.{up, digit, Spot, place_at}
-use Rattle.live_law.specs.Views.{View, locked, detached, rest_of}
-use Rattle.live_law.specs.Tree.{IsMap, LinksAgain, StaysSame, again, left_again}
-use Rattle.live_law.proofs.Joins.{link_grown}
-use Rattle.live_law.proofs.Writes.{node_stays, node_retires}
+use Rattle.live_nodes.specs.Levels.{up, digit, Spot, place_at}
+use Rattle.live_nodes.specs.Views.{View, locked, detached, rest_of}
+use Rattle.live_nodes.specs.Tree.{IsMap, LinksAgain, StaysSame, again, left_again}
+use Rattle.live_nodes.proofs.Joins.{link_grown}
+use Rattle.live_nodes.proofs.Writes.{node_stays, node_retires}
 use Rattle.live_reads.proofs.Views.{first_word}
 use Rattle.live_growth.proofs.Grips.{Grips, grip_frees, grip_freed}
 use Rattle.live_growth.proofs.Pairs.{change_done, at_result, grown_changes}

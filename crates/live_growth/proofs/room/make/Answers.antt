@@ -4,7 +4,7 @@ use Rattle.word_book.specs.Book.{Name, writes, none_joined}
 use Rattle.live_nodes.specs.Plays.{Makes}
 use Rattle.live_nodes.specs.Calls.{MayMake}
 use Rattle.live_layout.specs.Encodes.{words_of}
-use Rattle.live_law.specs.Tree.{IsMap, IsMade}
+use Rattle.live_nodes.specs.Tree.{IsMap, IsMade}
 use Rattle.live_growth.proofs.Rooms.{may_make, has_made, has_room}
 use Rattle.live_growth.proofs.room.make.Goals as goal
 

@@ -8,11 +8,11 @@ use Rattle.live_nodes.specs.Nodes.{Content}
 use Rattle.live_nodes.specs.Acts as acts
 use Rattle.live_nodes.specs.Rows.{AreOf, draft_of, nth}
 use Rattle.live_layout.specs.Encodes.{words_of, Encodes, IsBelow, IsWord, empty_node, with_child}
-use Rattle.live_law.specs.Levels.{up, digit, bytes_above, Spot, place_at}
-use Rattle.live_law.specs.Views.{View, Own, locked, detached, rest_of, watch}
-use Rattle.live_law.specs.Tree.{IsMap, LinksAgain, StaysSame, again, left_again}
-use Rattle.live_law.proofs.Joins.{link_above}
-use Rattle.live_law.proofs.Writes.{node_stays, node_retires}
+use Rattle.live_nodes.specs.Levels.{up, digit, bytes_above, Spot, place_at}
+use Rattle.live_nodes.specs.Views.{View, Own, locked, detached, rest_of, watch}
+use Rattle.live_nodes.specs.Tree.{IsMap, LinksAgain, StaysSame, again, left_again}
+use Rattle.live_nodes.proofs.Joins.{link_above}
+use Rattle.live_nodes.proofs.Writes.{node_stays, node_retires}
 use Rattle.live_reads.specs.Paths.{AreNamed}
 use Rattle.live_reads.specs.Mismatches.{IsParted}
 use Rattle.live_growth.specs.Holds.{Alike, HasLocked, HasReclaimed, HoldsOne, number_at}

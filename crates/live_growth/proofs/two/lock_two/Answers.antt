@@ -4,8 +4,8 @@ use Rattle.live_nodes.specs.Seats.{Each, Hold, hold}
 use Rattle.live_nodes.specs.Rows.{nth, draft_of}
 use Rattle.live_layout.specs.Encodes.{words_of}
 use Rattle.node_base.specs.declared.base_node.NodeType.{NodeType}
-use Rattle.live_law.specs.Views.{Own, locked}
-use Rattle.live_law.specs.Tree.{IsApart}
+use Rattle.live_nodes.specs.Views.{Own, locked}
+use Rattle.live_nodes.specs.Tree.{IsApart}
 use Rattle.live_reads.specs.Paths.{AreNamed}
 use Rattle.live_growth.specs.Holds.{HasLocked, HasWordOf, HoldsOne}
 use Rattle.live_growth.proofs.Locks.{taken_by, holds_one, may_hold, draft_is, alike_then}

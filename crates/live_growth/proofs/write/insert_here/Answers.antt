@@ -6,10 +6,10 @@ use Rattle.live_nodes.specs.Nodes.{Content}
 use Rattle.live_nodes.specs.Seats.{SeatView}
 use Rattle.live_nodes.specs.Rows.{draft_of, nth}
 use Rattle.live_layout.specs.Encodes.{Encodes, words_of, with_child}
-use Rattle.live_law.specs.Levels.{up, digit, Spot, place_at}
-use Rattle.live_law.specs.Views.{View, content_of, inserted}
-use Rattle.live_law.specs.Tree.{IsMap, Inserts, Answers}
-use Rattle.live_law.proofs.Writes.{leaf_inserts}
+use Rattle.live_nodes.specs.Levels.{up, digit, Spot, place_at}
+use Rattle.live_nodes.specs.Views.{View, content_of, inserted}
+use Rattle.live_nodes.specs.Tree.{IsMap, Inserts, Answers}
+use Rattle.live_nodes.proofs.Writes.{leaf_inserts}
 use Rattle.live_reads.specs.Paths.{AreNamed}
 use Rattle.live_growth.specs.Holds.{Alike, HasLocked, HasLockedOpen, HoldsOne}
 use Rattle.live_reads.proofs.Views.{first_word}

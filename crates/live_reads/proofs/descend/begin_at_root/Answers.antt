@@ -1,5 +1,5 @@
 use Rattle.std.proofs.Common.{ap, ◌∙◌}
-use Rattle.live_law.specs.Views.{View}
+use Rattle.live_nodes.specs.Views.{View}
 use Rattle.live_reads.proofs.Finds.{keeps_then, names_kept}
 use Rattle.live_reads.proofs.Sights.{sights_names, sure_root}
 use Rattle.live_reads.proofs.Stood.{position_first}

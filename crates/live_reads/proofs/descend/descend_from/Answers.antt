@@ -1,5 +1,5 @@
 use Rattle.std.proofs.Common.{rules, arith, subst, false, ℕ, Some, None, ◌≡◌, ◌≤◌, ◌∙◌}
-use Rattle.live_law.specs.Views.{ask}
+use Rattle.live_nodes.specs.Views.{ask}
 use Rattle.live_reads.specs.Paths.{IsOpen, Ended, Keeps}
 use Rattle.live_reads.specs.Sees.{Follows, IsNextOpen}
 use Rattle.live_reads.specs.declared.prefix_match.Next.{Next}

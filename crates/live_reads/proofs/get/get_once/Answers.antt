@@ -1,5 +1,5 @@
 use Rattle.std.proofs.Common.{rules, arith, refl, sym, ap, subst, ℕ, Some, None, ◌≡◌, ◌∙◌}
-use Rattle.live_law.specs.Views.{View}
+use Rattle.live_nodes.specs.Views.{View}
 use Rattle.live_reads.specs.Paths.{Names, IsOpen, Keeps, Found, Ended}
 use Rattle.live_reads.specs.Sees.{Follows, IsNextOpen}
 use Rattle.live_reads.specs.declared.prefix_match.Next.{Next}

@@ -3,9 +3,9 @@ use mathlib.Core.Logic.{dite}
 use native.Mathlib.Decide.{ℕ_discrete}
 use Rattle.word_book.specs.Book.{Name}
 use Rattle.share_rule.specs.History.{Entry}
-use Rattle.live_law.specs.Levels.{place_at}
-use Rattle.live_law.specs.Views.{got}
-use Rattle.live_law.specs.Tree.{Answers}
+use Rattle.live_nodes.specs.Levels.{place_at}
+use Rattle.live_nodes.specs.Views.{got}
+use Rattle.live_nodes.specs.Tree.{Answers}
 use Rattle.live_reads.specs.Mismatches.{IsMismatched}
 use Rattle.live_reads.specs.Paths.{Keeps}
 use Rattle.live_reads.proofs.Finds.{keeps_then}

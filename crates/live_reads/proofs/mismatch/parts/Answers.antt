@@ -2,7 +2,7 @@ use Rattle.std.proofs.Common.{rules, arith, refl, ap, subst, get_or, ℕ, List, 
 use Rattle.word_book.specs.Book.{Name}
 use Rattle.live_layout.specs.Head.{IsHead}
 use Rattle.live_nodes.specs.Seats.{IsIn}
-use Rattle.live_law.specs.Levels.{place_at}
+use Rattle.live_nodes.specs.Levels.{place_at}
 use Rattle.live_reads.specs.Mismatches.{IsParted}
 use Rattle.live_reads.specs.Paths.{HasOpened, Keeps}
 use Rattle.live_reads.specs.declared.prefix_match.PrefixMatch.TheVariants as prefix_matches

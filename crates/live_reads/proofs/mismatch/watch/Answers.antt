@@ -8,9 +8,9 @@ use Rattle.live_nodes.specs.Calls.{MayCheck}
 use Rattle.live_nodes.specs.Seats.{Agree, SeatView}
 use Rattle.live_nodes.specs.Rows.{AreOf, last_saw}
 use Rattle.live_layout.specs.Encodes.{words_of, IsBelow, IsWord, Encodes}
-use Rattle.live_law.specs.Levels.{digit, place_at}
-use Rattle.live_law.specs.Views.{View}
-use Rattle.live_law.specs.Tree.{IsMap, LearnsBelow}
+use Rattle.live_nodes.specs.Levels.{digit, place_at}
+use Rattle.live_nodes.specs.Views.{View}
+use Rattle.live_nodes.specs.Tree.{IsMap, LearnsBelow}
 use Rattle.live_reads.specs.Mismatches.{first_number}
 use Rattle.live_reads.specs.Sees.{Sees}
 use Rattle.live_reads.specs.Paths.{Sights, HasOpened, Keeps}

@@ -3,7 +3,7 @@ use Rattle.spec_map.specs.Map.{lookup}
 use Rattle.live_layout.specs.Encodes.{words_of, IsBelow}
 use Rattle.live_nodes.specs.Rows.{last_saw, without_reads}
 use Rattle.live_nodes.specs.Seats.{Agree}
-use Rattle.live_law.specs.Levels.{place_at}
+use Rattle.live_nodes.specs.Levels.{place_at}
 use Rattle.live_reads.proofs.Views.{first_word, may_read_open, may_look, look_missed, look_ends}
 use Rattle.live_reads.proofs.path.look.Given.{Over}
 use Rattle.live_reads.proofs.path.look.Goals as goal

@@ -1,5 +1,5 @@
 use Rattle.std.proofs.Common.{sym, subst, ◌∙◌}
-use Rattle.live_law.specs.Levels.{place_at}
+use Rattle.live_nodes.specs.Levels.{place_at}
 use Rattle.live_reads.specs.Paths.{AreNamed}
 use Rattle.live_reads.proofs.Views.{first_word, seen_of, seen_at, seen_keeps, seen_reads, seen_open}
 use Rattle.live_reads.proofs.path.open.Goals as goal

@@ -1,4 +1,4 @@
-use Rattle.live_law.proofs.Begun.{root_learns}
+use Rattle.live_nodes.proofs.Begun.{root_learns}
 use Rattle.live_reads.proofs.Roots.{same_seen}
 use Rattle.live_reads.proofs.path.root.Goals as goal
 

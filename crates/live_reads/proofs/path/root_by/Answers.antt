@@ -1,7 +1,7 @@
 use Rattle.std.proofs.Common.{rules, arith, sym, ap, subst, ℕ, [], ◌∷◌, ◌≡◌, ◌∙◌}
 use Rattle.word_book.specs.Book.{Name, name}
-use Rattle.live_law.specs.Views.{View}
-use Rattle.live_law.specs.Roots.{MayLearnRoot}
+use Rattle.live_nodes.specs.Views.{View}
+use Rattle.live_nodes.specs.Roots.{MayLearnRoot}
 use Rattle.live_reads.proofs.Views.{reading, root_word_place, root_word_taken, root_word_read, root_word_cell, reading_keeps}
 use Rattle.live_reads.proofs.Roots.{may_check_root, root_missed, root_none, root_names}
 use Rattle.live_reads.proofs.path.root_by.Given.{Over}

@@ -1,8 +1,8 @@
 use Rattle.std.proofs.Common.{rules, arith, refl, sym, ap, subst, get_or, ◌≡◌, ◌/◌, ◌∙◌}
 use Rattle.word_book.specs.Book.{Name}
 use Rattle.live_nodes.specs.Rows.{last_saw, without_reads}
-use Rattle.live_law.specs.Levels.{place_at}
-use Rattle.live_law.specs.Views.{View}
+use Rattle.live_nodes.specs.Levels.{place_at}
+use Rattle.live_nodes.specs.Views.{View}
 use Rattle.live_reads.specs.Paths.{HasOpened, Keeps, Sights}
 use Rattle.live_reads.proofs.Finds.{keeps_then}
 use Rattle.live_reads.proofs.Views.{first_word, may_read_open, open_long, IsHeaded, may_meet, meet_missed, meet_head}

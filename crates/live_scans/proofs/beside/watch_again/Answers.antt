@@ -4,9 +4,9 @@ use native.Mathlib.Decide.{ℕ_discrete}
 use Rattle.word_book.specs.Book.{reads, none_joined}
 use Rattle.live_nodes.specs.Plays.{Checks}
 use Rattle.live_nodes.specs.Calls.{MayCheck}
-use Rattle.live_law.specs.Levels.{place_at}
-use Rattle.live_law.specs.Views.{View}
-use Rattle.live_law.specs.Tree.{IsMap, LearnsBelow}
+use Rattle.live_nodes.specs.Levels.{place_at}
+use Rattle.live_nodes.specs.Views.{View}
+use Rattle.live_nodes.specs.Tree.{IsMap, LearnsBelow}
 use Rattle.live_reads.proofs.Views.{first_word}
 use Rattle.live_scans.proofs.Nexts.{may_watch_again, again_missed, again_keeps, again_next}
 use Rattle.live_scans.proofs.beside.watch_again.Goals as goal

@@ -1,5 +1,5 @@
 use Rattle.std.proofs.Common.{arith, ◌<◌}
-use Rattle.live_law.specs.Levels.{digit}
+use Rattle.live_nodes.specs.Levels.{digit}
 use Rattle.live_scans.proofs.Behinds.{is_under, is_after}
 use Rattle.live_scans.proofs.gaps.first_beside.Goals as goal
 

@@ -2,8 +2,8 @@ use Rattle.std.proofs.Common.{rules, arith, refl, sym, ap, subst, get_or, ℕ, �
 use mathlib.Core.Logic.{dite}
 use native.Mathlib.Decide.{ℕ_discrete}
 use Rattle.word_book.specs.Book.{Name}
-use Rattle.live_law.specs.Levels.{place_at}
-use Rattle.live_law.specs.Views.{View}
+use Rattle.live_nodes.specs.Levels.{place_at}
+use Rattle.live_nodes.specs.Views.{View}
 use Rattle.live_reads.specs.Mismatches.{IsMismatched}
 use Rattle.live_reads.specs.Paths.{Keeps}
 use Rattle.live_reads.proofs.Finds.{keeps_then}

@@ -1,8 +1,8 @@
 use Rattle.std.proofs.Common.{true, rules, arith, refl, sym, ap, subst, ◌≡◌, ◌+◌, ◌/◌}
 use Rattle.live_nodes.specs.Seats.{Agree}
 use Rattle.live_nodes.specs.Rows.{last_saw}
-use Rattle.live_law.specs.Levels.{place_at}
-use Rattle.live_law.specs.Views.{View}
+use Rattle.live_nodes.specs.Levels.{place_at}
+use Rattle.live_nodes.specs.Views.{View}
 use Rattle.live_reads.specs.Paths.{Keeps}
 use Rattle.live_reads.proofs.Views.{first_word}
 use Rattle.live_scans.specs.inner.Moments.{IsRead, IsWithin}

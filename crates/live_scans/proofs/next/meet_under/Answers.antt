@@ -1,8 +1,8 @@
 use Rattle.std.proofs.Common.{arith, sym, ap, ◌/◌, ◌∙◌}
 use mathlib.Core.Logic.{dite}
 use native.Mathlib.Decide.{ℕ_discrete}
-use Rattle.live_law.specs.Levels.{up, digit, place_at}
-use Rattle.live_law.specs.Views.{View}
+use Rattle.live_nodes.specs.Levels.{up, digit, place_at}
+use Rattle.live_nodes.specs.Views.{View}
 use Rattle.live_reads.proofs.Views.{first_word}
 use Rattle.live_scans.proofs.Nexts.{up_of, may_meet_under, under_missed, under_keeps, under_met, under_near}
 use Rattle.live_scans.proofs.next.meet_under.Goals as goal

@@ -3,8 +3,8 @@ use Rattle.word_book.specs.Book.{reads, none_joined}
 use Rattle.live_nodes.specs.Plays.{Checks}
 use Rattle.live_nodes.specs.Calls.{MayCheck}
 use Rattle.live_nodes.specs.Seats.{IsIn}
-use Rattle.live_law.specs.Levels.{place_at}
-use Rattle.live_law.specs.Tree.{IsMap, LearnsBelow}
+use Rattle.live_nodes.specs.Levels.{place_at}
+use Rattle.live_nodes.specs.Tree.{IsMap, LearnsBelow}
 use Rattle.live_layout.specs.Head.{IsHead}
 use Rattle.live_reads.specs.Paths.{HasOpened, Keeps, Sights}
 use Rattle.live_reads.specs.Sees.{Sees}

@@ -3,8 +3,8 @@ use Rattle.word_book.specs.Book.{Book}
 use Rattle.live_nodes.specs.Seats.{IsIn}
 use Rattle.live_nodes.specs.Rows.{AreOf, last_saw}
 use Rattle.live_layout.specs.Head.{IsHead}
-use Rattle.live_law.specs.Levels.{place_at}
-use Rattle.live_law.specs.Views.{View}
+use Rattle.live_nodes.specs.Levels.{place_at}
+use Rattle.live_nodes.specs.Views.{View}
 use Rattle.live_reads.specs.Paths.{Names, HasOpened, Keeps}
 use Rattle.live_reads.specs.Sees.{Sees}
 use Rattle.live_reads.specs.declared.prefix_match.PrefixMatch.TheVariants as prefix_matches

@@ -1,6 +1,6 @@
 use Rattle.std.proofs.Common.{sym, ap, ◌≡◌, ◌∙◌, ℕ}
-use Rattle.live_law.specs.Levels.{place_at}
-use Rattle.live_law.specs.Views.{View}
+use Rattle.live_nodes.specs.Levels.{place_at}
+use Rattle.live_nodes.specs.Views.{View}
 use Rattle.live_reads.specs.Paths.{Keeps}
 use Rattle.live_reads.proofs.Views.{first_word, may_read_open}
 use Rattle.live_scans.proofs.PathNodes.{known_keeps, known_opened, known_placed, opened_keeps, known_open}

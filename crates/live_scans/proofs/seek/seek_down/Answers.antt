@@ -1,6 +1,6 @@
 use Rattle.std.proofs.Common.{false, rules, arith, refl, sym, ap, subst, ℕ, Some, None, ◌≡◌, ◌∙◌}
 use Rattle.live_nodes.specs.Seats.{SeatView}
-use Rattle.live_law.specs.Views.{View}
+use Rattle.live_nodes.specs.Views.{View}
 use Rattle.live_reads.specs.Paths.{Names, Ended, Keeps}
 use Rattle.live_reads.specs.Sees.{Follows, IsNextOpen}
 use Rattle.live_reads.specs.declared.prefix_match.Next.{Next}

@@ -1,5 +1,5 @@
 use Rattle.std.proofs.Common.{rules, sym, refl, Some, None, ◌≡◌, ◌∙◌}
-use Rattle.live_law.specs.Views.{ask, got}
+use Rattle.live_nodes.specs.Views.{ask, got}
 use Rattle.live_reads.proofs.Finds.{answers_by}
 use Rattle.live_growth.specs.Calls.{IsReady}
 use Rattle.live_growth.proofs.Ready.{ready_kept, ready_last, made_call}

@@ -1,6 +1,6 @@
 use Rattle.std.proofs.Common.{rules, sym, subst, refl, ℕ, Option, Result, None, Some, ◌≡◌, ◌∙◌}
 use Rattle.std.specs.Option.{option_map}
-use Rattle.live_law.specs.Tree.{Answers}
+use Rattle.live_nodes.specs.Tree.{Answers}
 use Rattle.live_growth.proofs.Ready.{made_call}
 use Rattle.live_updates.specs.Entries.{swapped}
 use Rattle.live_updates.specs.inner.Lookups.{EndsBy}

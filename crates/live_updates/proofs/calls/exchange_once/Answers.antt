@@ -1,6 +1,6 @@
 use Rattle.std.proofs.Common.{rules, sym, subst, Ok, Some, None, ◌≡◌, ◌≢◌, ◌∙◌}
 use Rattle.std.specs.Option.{option_map}
-use Rattle.live_law.specs.Tree.{Answers}
+use Rattle.live_nodes.specs.Tree.{Answers}
 use Rattle.live_growth.specs.Calls.{IsReady}
 use Rattle.live_growth.proofs.Ready.{ready_kept, ready_last}
 use Rattle.live_updates.specs.Entries.{swapped}

@@ -7,10 +7,10 @@ use Rattle.live_nodes.specs.Seats.{SeatView, seat_view, Place, IsIn, hold}
 use Rattle.live_nodes.specs.Acts as acts
 use Rattle.live_nodes.specs.Rows.{AreOf, draft_of, nth}
 use Rattle.live_layout.specs.Encodes.{words_of, Encodes, IsBelow, IsWord, IsCounted}
-use Rattle.live_law.specs.Levels.{digit, Spot, place_at}
-use Rattle.live_law.specs.Views.{View, locked, detached, rest_of}
-use Rattle.live_law.specs.Tree.{IsMap, StaysSame}
-use Rattle.live_law.proofs.Writes.{node_retires}
+use Rattle.live_nodes.specs.Levels.{digit, Spot, place_at}
+use Rattle.live_nodes.specs.Views.{View, locked, detached, rest_of}
+use Rattle.live_nodes.specs.Tree.{IsMap, StaysSame}
+use Rattle.live_nodes.proofs.Writes.{node_retires}
 use Rattle.live_growth.proofs.Locks.{alike_then}
 use Rattle.live_growth.proofs.Grips.{Grips, grip_frees, grip_freed}
 use Rattle.live_reads.proofs.Views.{first_word}

@@ -1,5 +1,5 @@
 use Rattle.std.proofs.Common.{sym, subst, ◌∙◌}
-use Rattle.live_law.specs.Tree.{Answers}
+use Rattle.live_nodes.specs.Tree.{Answers}
 use Rattle.live_growth.proofs.Ready.{ready_rest}
 use Rattle.live_growth.proofs.StoodOn.{position_rest}
 use Rattle.live_updates.proofs.Seeks.{leaf_open}

@@ -6,9 +6,9 @@ use Rattle.spec_map.specs.Map.{lookup}
 use Rattle.spec_node.specs.TableNode.{TableNode}
 use Rattle.live_nodes.specs.Rows.{draft_of, nth}
 use Rattle.live_layout.specs.Encodes.{words_of, IsCounted, Encodes}
-use Rattle.live_law.specs.Levels.{up, digit, Spot, place_at}
-use Rattle.live_law.specs.Views.{View}
-use Rattle.live_law.specs.Tree.{IsMap, Answers}
+use Rattle.live_nodes.specs.Levels.{up, digit, Spot, place_at}
+use Rattle.live_nodes.specs.Views.{View}
+use Rattle.live_nodes.specs.Tree.{IsMap, Answers}
 use Rattle.live_reads.specs.Paths.{AreNamed, IsOpen}
 use Rattle.live_growth.specs.Holds.{Alike, HasLocked, HasLockedOpen, HoldsOne}
 use Rattle.live_reads.proofs.Views.{first_word}

@@ -5,7 +5,7 @@ use Rattle.live_layout.specs.Encodes.{words_of, IsBelow, Encodes, payload_of}
 use Rattle.live_nodes.specs.Nodes.{Content}
 use Rattle.live_nodes.specs.Seats.{Agree}
 use Rattle.live_nodes.specs.Rows.{last_saw}
-use Rattle.live_law.specs.Levels.{place_at, digit}
+use Rattle.live_nodes.specs.Levels.{place_at, digit}
 use Rattle.live_updates.specs.inner.Lookups.{IsOpenWith}
 use Rattle.live_growth.proofs.Values.{value_found}
 use Rattle.live_reads.proofs.Views.{first_word, may_read_open}

@@ -3,8 +3,8 @@ use Rattle.spec_map.specs.Map.{lookup}
 use Rattle.live_layout.specs.Encodes.{words_of, IsBelow}
 use Rattle.live_nodes.specs.Seats.{Agree}
 use Rattle.live_nodes.specs.Rows.{last_saw}
-use Rattle.live_law.specs.Levels.{place_at}
-use Rattle.live_law.specs.Views.{View}
+use Rattle.live_nodes.specs.Levels.{place_at}
+use Rattle.live_nodes.specs.Views.{View}
 use Rattle.live_reads.proofs.Views.{first_word, may_read_open, open_read, reading_on_keeps}
 use Rattle.live_updates.proofs.Seeks.{HasRead, lacks_checked, may_seek, seek_missed, seek_ends}
 use Rattle.live_updates.proofs.lookup.has_no_child.Given.{Over}

@@ -1,5 +1,5 @@
 use Rattle.std.proofs.Common.{arith, refl, sym, get_or, ◌/◌, ◌∙◌}
-use Rattle.live_law.specs.Levels.{place_at}
+use Rattle.live_nodes.specs.Levels.{place_at}
 use Rattle.live_reads.proofs.Finds.{keeps_then}
 use Rattle.live_reads.proofs.Views.{first_word}
 use Rattle.live_updates.proofs.Seeks.{LeadsAside, lacks_checked, lacks_later, may_part, part_lost, part_ends}

@@ -3,7 +3,7 @@ use Rattle.node_base.specs.Form.{limit, smaller_form}
 use Rattle.node_base.specs.declared.base_node.NodeType.{NodeType}
 use Rattle.node_base.specs.declared.base_node.NodeType.TheVariants.{N4}
 use Rattle.live_layout.specs.Encodes.{counted, most}
-use Rattle.live_law.specs.Views.{View}
+use Rattle.live_nodes.specs.Views.{View}
 use Rattle.live_reads.specs.Paths.{AreNamed}
 use Rattle.live_growth.specs.Holds.{Alike}
 use Rattle.live_growth.proofs.Linked.{when_none}

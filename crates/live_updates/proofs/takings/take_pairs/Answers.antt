@@ -7,8 +7,8 @@ use Rattle.live_nodes.specs.Nodes.{Content}
 use Rattle.live_nodes.specs.Rows.{draft_of, nth}
 use Rattle.live_layout.specs.Encodes.{words_of, Encodes}
 use Rattle.live_layout.specs.Page.{AreListed, pairs_of}
-use Rattle.live_law.specs.Levels.{up, Spot}
-use Rattle.live_law.specs.Views.{View}
+use Rattle.live_nodes.specs.Levels.{up, Spot}
+use Rattle.live_nodes.specs.Views.{View}
 use Rattle.live_reads.specs.Paths.{AreNamed, IsOpen}
 use Rattle.live_growth.specs.Holds.{Alike, HasLocked, HasLockedOpen, HoldsOne}
 use Rattle.live_growth.proofs.Locks.{taken_by, are_named, holds_one, may_hold, draft_is, wrote_one, alike_then}

@@ -3,9 +3,9 @@ use Rattle.spec_node.specs.TableNode.{TableNode}
 use Rattle.live_nodes.specs.Acts as acts
 use Rattle.live_nodes.specs.Seats.{SeatView}
 use Rattle.live_layout.specs.Page.{AreListed}
-use Rattle.live_law.specs.Levels.{place_at}
-use Rattle.live_law.specs.Views.{View}
-use Rattle.live_law.specs.Tree.{IsMap}
+use Rattle.live_nodes.specs.Levels.{place_at}
+use Rattle.live_nodes.specs.Views.{View}
+use Rattle.live_nodes.specs.Tree.{IsMap}
 use Rattle.live_reads.proofs.Views.{first_word}
 use Rattle.live_growth.proofs.Locks.{may_free, is_freed}
 use Rattle.live_updates.specs.Takings.{Takes}

@@ -1,5 +1,5 @@
 use Rattle.std.proofs.Common.{rules, sym, refl, None, ◌≡◌, ◌∙◌}
-use Rattle.live_law.specs.Views.{ask, got}
+use Rattle.live_nodes.specs.Views.{ask, got}
 use Rattle.live_reads.proofs.Finds.{found_none, answers_by}
 use Rattle.live_growth.proofs.Ready.{ready_kept, ready_last, made_call}
 use Rattle.live_growth.proofs.map.Congee.get.Goals as goal

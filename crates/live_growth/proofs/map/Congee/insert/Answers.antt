@@ -1,5 +1,5 @@
 use Rattle.std.proofs.Common.{sym, refl, ◌∙◌}
-use Rattle.live_law.specs.Views.{ask, inserted}
+use Rattle.live_nodes.specs.Views.{ask, inserted}
 use Rattle.live_reads.proofs.Finds.{inserted_by}
 use Rattle.live_growth.proofs.Ready.{made_call}
 use Rattle.live_growth.proofs.map.Congee.insert.Goals as goal

@@ -1,7 +1,7 @@
 use Rattle.std.proofs.Common.{ℕ, Bool, List, [], ◌∷◌, ◌++◌, sym, subst, ap, if◌then◌else◌, is_ok}
 use Rattle.live_nodes.specs.Seats.{SeatView, Each}
 use Rattle.live_nodes.proofs.Frames.{each_both}
-use Rattle.live_law.specs.Views.{View}
+use Rattle.live_nodes.specs.Views.{View}
 use Rattle.live_reads.specs.Paths.{Sights}
 use Rattle.live_pool.proofs.Tellings.{keeps_more, sights_others, each_own}
 use Rattle.live_pool.proofs.free_list.FreeList.add.Goals as goal

@@ -1,7 +1,7 @@
 use Rattle.std.proofs.Common.{ℕ, subst, ap, Option, Some, None, IfSome}
 use Rattle.std.specs.Option.{option_to_list}
 use Rattle.live_nodes.specs.Seats.{SeatView, Each}
-use Rattle.live_law.specs.Views.{View}
+use Rattle.live_nodes.specs.Views.{View}
 use Rattle.live_reads.specs.Paths.{Sights}
 use Rattle.live_pool.proofs.Lists.{each_parts}
 use Rattle.live_pool.proofs.Tellings.{keeps_more, sights_others, each_own}

@@ -1,7 +1,7 @@
 use Rattle.std.proofs.Common.{ℕ, List, ◌≡◌, ◌∙◌, subst}
 use Rattle.share_rule.specs.History.{Entry}
-use Rattle.live_law.specs.Views.{View}
-use Rattle.live_law.specs.Tree.{Answers}
+use Rattle.live_nodes.specs.Views.{View}
+use Rattle.live_nodes.specs.Tree.{Answers}
 use Rattle.live_nodes.specs.Seats.{SeatView}
 use Rattle.live_updates.specs.inner.Updates.{Update}
 use Rattle.live_updates.specs.inner.Ends.{Tries}

@@ -1,5 +1,5 @@
 use Rattle.std.proofs.Common.{rules, sym, subst, refl, ℕ, Option, ◌∙◌}
-use Rattle.live_law.specs.Tree.{Answers}
+use Rattle.live_nodes.specs.Tree.{Answers}
 use Rattle.live_growth.proofs.Ready.{made_call}
 use Rattle.live_updates.specs.Closures.{Reaches, EndsWithCall}
 use Rattle.live_updates.specs.ClosureEntries.{inserted_with}

@@ -1,5 +1,5 @@
 use Rattle.std.proofs.Common.{rules, sym, subst, refl, ℕ, Ok, Some, unwrap_or, Option, ◌≡◌, ◌∙◌}
-use Rattle.live_law.specs.Tree.{Answers}
+use Rattle.live_nodes.specs.Tree.{Answers}
 use Rattle.live_growth.proofs.Ready.{made_call}
 use Rattle.live_updates.specs.ClosureEntries.{inserted_with}
 use Rattle.live_updates.proofs.Tries.{stores_done}
