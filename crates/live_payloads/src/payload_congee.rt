@@ -1,6 +1,6 @@
 //! `PayloadCongee`, the map from keys to payloads that threads read without a lock, and `CongeeArc`.
 //!
-//! Tested in `test_word_slots`.
+//! Tested in `test_live_payloads`.
 ghost use Rattle.std.specs.Prelude.{◌≡◌, ◌^◌, ◌-◌, ℕ, [], Some, IfOk, IfErr, IfSome, IfNone, OnErr};
 ghost use Rattle.word_slots.specs.Tickets.{HasIssued, IsNew};
 ghost use Rattle.live_payloads.specs.Payloads.{IsGuardOf, KnowsMore, IsLoan, LookedInVain, GetsPayload};

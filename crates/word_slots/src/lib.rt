@@ -7,7 +7,7 @@
 //! Each ticket that is issued is one entry of a log, which exists in proofs alone. So whoever has a ticket, and whoever reads by
 //! that ticket, speak of one value.
 //!
-//! Tested in `test_word_slots`.
+//! Tested in `test_live_payloads`.
 #![tactic(auto)]
 
 pub mod lent;

@@ -2,7 +2,7 @@
 //!
 //! A call looks the key up, calls the closure while nothing is locked, and then exchanges the payload by its ticket.
 //!
-//! Tested in `test_word_slots`.
+//! Tested in `test_live_payloads`.
 ghost use Rattle.std.specs.Prelude.{◌≡◌, ℕ, Option, None, Some, IfOk, IfErr, IfSome, IfNone, IsSomeAnd, OnErr, option_copied};
 ghost use Rattle.std.specs.Fn.{CalledAt};
 ghost use Rattle.live_growth.specs.declared.map.Refusal.TheVariants.{OutOfMemory as IsOutOfMemory};

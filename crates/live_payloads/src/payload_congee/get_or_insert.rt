@@ -1,6 +1,6 @@
 //! `get_or_insert`: a payload for an absent key.
 //!
-//! Tested in `test_word_slots`.
+//! Tested in `test_live_payloads`.
 ghost use Rattle.std.specs.Prelude.{◌≡◌, ◌⊎◌, None, Some, IfOk, IfErr, IfSome, IfNone, OnErr};
 ghost use Rattle.live_growth.specs.declared.map.Refusal.TheVariants.{Busy as IsBusy, OutOfMemory as IsOutOfMemory};
 ghost use Rattle.live_updates.specs.Refusals.{FoundNone};

@@ -3,7 +3,7 @@
 //! All memory is taken first, so that no payload is between the maps where memory is missing: then the map that was to be moved
 //! is as it was.
 //!
-//! Tested in `test_word_slots`.
+//! Tested in `test_live_payloads`.
 ghost use Rattle.std.specs.Prelude.{◌≡◌, IfOk, IfErr, OnErr};
 ghost use mathlib.Core.List.{IsPrefix};
 ghost use Rattle.live_scans.specs.Scans.{HasWaited, Waits};

@@ -3,7 +3,7 @@
 //! A search begins with an entry of its own in the history of tickets. Where the ticket that it found is retired by then, the call
 //! searches again.
 //!
-//! Tested in `test_word_slots`.
+//! Tested in `test_live_payloads`.
 ghost use Rattle.std.specs.Prelude.{◌≡◌, ◌+◌, ◌≤◌, ◌^◌, true, false, IfOk, IfSome, IfNone, OnErr};
 ghost use Rattle.live_scans.specs.Scans.{GaveUp};
 ghost use Rattle.live_payloads.specs.Payloads.{IsGuardOf, KnowsMore};

@@ -1,6 +1,6 @@
 //! The first pair or the last, which is removed.
 //!
-//! Tested in `test_word_slots`.
+//! Tested in `test_live_payloads`.
 ghost use Rattle.std.specs.Prelude.{◌≡◌, ◌^◌, true, false, IfSome};
 ghost use Rattle.live_payloads.specs.Payloads.{IsGuardOf, KnowsMore};
 ghost use Rattle.live_payloads.specs.Tries.{PopsPayload};
