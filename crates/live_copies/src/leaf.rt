@@ -5,10 +5,10 @@ ghost use Rattle.live_copies.specs.inner.Locks.{HasLocks, Grows, HasTaken, Takes
 
 use crate::locks::{Work, lock_noted};
 use live_growth::map::Refusal;
-use live_nodes::map_law::{MapLaw, MapView};
 use live_layout::form::{form_below, words_in};
 use live_layout::page::{Part, fill};
 use live_layout::words::AsReadWords;
+use live_nodes::map_law::{MapLaw, MapView};
 use live_nodes::rows::LockedWords;
 use live_reads::path::{Cell, Nodes, Seat};
 

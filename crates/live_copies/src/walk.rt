@@ -10,8 +10,8 @@ use crate::leaf::take_leaf;
 use crate::locks::{Work, lock_noted};
 use crate::names::has_children;
 use live_growth::map::Refusal;
-use live_nodes::map_law::{MapLaw, MapView};
 use live_layout::form::form_below;
+use live_nodes::map_law::{MapLaw, MapView};
 use live_nodes::rows::LockedWords;
 use live_reads::path::{Nodes, Seat};
 

@@ -9,8 +9,8 @@ ghost use Rattle.live_nodes.specs.Tree.{IsMap, LinksAgain};
 ghost use Rattle.live_reads.specs.Paths.{Names, Sights, AreNamed, IsOpen};
 ghost use Rattle.live_growth.specs.Holds.{Alike, HasLocked, HasLockedOpen, HasReclaimed, HoldsOne, HasRest};
 
-use live_nodes::map_law::{Again, Asks, Fills, Locked, MapLaw, MapView, Reclaimed, Same};
 use live_layout::words::ReadWords;
+use live_nodes::map_law::{Again, Asks, Fills, Locked, MapLaw, MapView, Reclaimed, Same};
 use live_nodes::node;
 use live_nodes::rows::SharedWords;
 use live_reads::path::{Cell, Opened, Seat};

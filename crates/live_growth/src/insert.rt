@@ -266,23 +266,13 @@ pub fn part(
     if spare == 0 {
         return Err(Refusal::Busy);
     }
-    let Position { name, height, .. } = position;
-    let parted = split::<Brand>(
-        nodes,
-        name,
-        height,
-        mismatch,
-        key,
-        spare,
-        &mut room.spare,
-        seat,
-    );
+    let parted = split::<Brand>(nodes, position, mismatch, key, spare, &mut room.spare, seat);
     if !parted {
         return Err(Refusal::Busy);
     }
     Ok(Position {
-        above: name,
-        level: height,
+        above: position.name,
+        level: position.height,
         name: spare,
         height: mismatch.at,
     })

@@ -7,8 +7,8 @@ ghost use Rattle.live_growth.specs.Two.{HoldsTwo, LeadsTwo};
 
 use crate::grow_node::leads_to;
 use crate::held::{lock_node, unlock_same};
-use live_nodes::map_law::{MapLaw, MapView, Same};
 use live_layout::form::form_below;
+use live_nodes::map_law::{MapLaw, MapView, Same};
 use live_nodes::node;
 use live_nodes::rows::LockedWords;
 use live_reads::descend::Position;

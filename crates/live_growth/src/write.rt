@@ -7,10 +7,10 @@ ghost use Rattle.live_reads.specs.Paths.{IsOpen};
 ghost use Rattle.live_growth.specs.Holds.{HasRest, IsWritten, IsDone};
 
 use crate::held::{lock_open, unlock_same};
-use live_nodes::map_law::{Asks, Insert, MapLaw, MapView};
 use live_layout::change::{change, is_full, put};
 use live_layout::form::form_below;
 use live_layout::words::WriteWords;
+use live_nodes::map_law::{Asks, Insert, MapLaw, MapView};
 use live_nodes::node;
 use live_nodes::rows::LockedWords;
 use live_reads::path::{Opened, Seat, byte_at};

@@ -21,9 +21,6 @@ use crate::guard::PayloadGuard;
 use crossbeam_utils::Backoff;
 use live_growth::map::{Busy, Refusal, TRIES};
 use live_pool::pool::Pool;
-use word_slots::lent::Lent;
-use word_slots::log::agree;
-use word_slots::slots::{Lack, Slots};
 use spec_map::error::OOMError;
 use spec_map::traits::Word;
 use std::alloc::Global;
@@ -31,6 +28,9 @@ use std::marker::{Model, PhantomData};
 use std::sync::atomic::AtomicU64;
 use std::sync::atomic::Ordering::SeqCst;
 use std::sync::{Arc, Wait};
+use word_slots::lent::Lent;
+use word_slots::log::agree;
+use word_slots::slots::{Lack, Slots};
 
 /// An ordered map from keys that are written as 64-bit numbers to payloads of any type, which threads share. Two keys with one
 /// number are one key.

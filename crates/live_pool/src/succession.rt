@@ -3,8 +3,8 @@ ghost use Rattle.std.specs.Prelude.{◌≡◌};
 ghost use Rattle.live_pool.specs.Successions.{Succeeds, Informs};
 
 use live_growth::map::Guard;
-use live_nodes::map_law::{MapLaw, MapView};
 use live_nodes::law::{NodeLaw, View};
+use live_nodes::map_law::{MapLaw, MapView};
 use live_reads::path::Seat;
 use word_book::seat::Meeting;
 

@@ -7,10 +7,10 @@ ghost use Rattle.live_reads.specs.Mismatches.{first_number, IsAside, IsAbove, Is
 
 use crate::path::{Nodes, Opened, Seat, byte_at, open};
 use crate::prefix_match::{Mismatch, PrefixMatch, compare, enter};
-use live_nodes::map_law::{Above, Asks, Below, MapLaw, MapView, Miss};
 use live_layout::form::{form_below, slot_below};
 use live_layout::search::find;
 use live_layout::words::ReadWords;
+use live_nodes::map_law::{Above, Asks, Below, MapLaw, MapView, Miss};
 use live_nodes::node;
 use live_nodes::rows::SharedWords;
 use std::marker::Brand;

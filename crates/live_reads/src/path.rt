@@ -6,13 +6,13 @@ ghost use Rattle.live_nodes.specs.Roots.{MayLearnRoot};
 ghost use Rattle.live_reads.specs.Paths.{KnowsRootWord, Names, Sights, AreNamed, HasOpened, IsOpen, Keeps, Looked};
 ghost use Rattle.live_reads.specs.Roots.{SeesRoot, Begins};
 
-use live_nodes::map_law::{Asks, Look, MapLaw, MapView};
-use live_nodes::roots::{Root, Sees};
 use live_layout::form::{form_below, slot_below, words_in};
 use live_layout::search::find;
 use live_nodes::heap::Heap;
 use live_nodes::law::Word;
+use live_nodes::map_law::{Asks, Look, MapLaw, MapView};
 use live_nodes::node;
+use live_nodes::roots::{Root, Sees};
 use live_nodes::rows::SharedWords;
 use std::marker::Brand;
 

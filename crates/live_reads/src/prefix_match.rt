@@ -8,11 +8,11 @@ ghost use Rattle.live_reads.specs.Paths.{Sights, Leaves, IsOpen, Keeps, Ended};
 ghost use Rattle.live_reads.specs.Sees.{Sees, HasMet, Follows, IsNextOpen};
 
 use crate::path::{Nodes, Opened, Seat, look, open};
-use live_nodes::map_law::{Asks, Head, MapLaw, MapView};
 use live_layout::form::slot_below;
 use live_layout::head::prefix_len;
 use live_layout::lanes::lane_of;
 use live_layout::words::ReadWords;
+use live_nodes::map_law::{Asks, Head, MapLaw, MapView};
 use live_nodes::node;
 use live_nodes::rows::SharedWords;
 use std::simd::prelude::*;

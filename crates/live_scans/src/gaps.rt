@@ -7,9 +7,9 @@ ghost use Rattle.live_scans.specs.inner.Gaps.{IsByteAfter, IsUpTo};
 
 use crate::keys::first_of;
 use crate::on_check::Whole;
-use live_nodes::map_law::{Asks, MapLaw, MapView};
 use live_layout::form::form_below;
 use live_layout::nearest::nearest;
+use live_nodes::map_law::{Asks, MapLaw, MapView};
 use live_nodes::node;
 use live_nodes::rows::SharedWords;
 use live_reads::mismatch::watch;

@@ -4,9 +4,9 @@ ghost use Rattle.live_reads.specs.Paths.{KnowsRootWord, Sights, IsOpen, Keeps};
 ghost use Rattle.live_reads.specs.Positions.{KnowsLast};
 ghost use Rattle.live_updates.specs.inner.Lookups.{IsLookup, MaySight, Found, Lacks, Sought, IsOpenWith};
 
-use live_nodes::map_law::{MapLaw, MapView};
 use live_layout::form::form_below;
 use live_layout::search::find;
+use live_nodes::map_law::{MapLaw, MapView};
 use live_nodes::node;
 use live_nodes::plays::OnCheck;
 use live_nodes::rows::SharedWords;

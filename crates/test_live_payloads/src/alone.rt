@@ -1,11 +1,11 @@
 //! One thread: what is inserted is lent, and each owner comes back.
 ghost use Rattle.std.specs.Prelude.{◌≡◌};
 
-use word_slots::log::SeenLog;
-use word_slots::slots::Slots;
 use std::alloc::Global;
 use std::sync::{Arc, Wait};
 use std::test::Fail;
+use word_slots::log::SeenLog;
+use word_slots::slots::Slots;
 
 type Owners = Slots<Arc<u64>>;
 

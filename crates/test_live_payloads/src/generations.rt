@@ -1,11 +1,11 @@
 //! A slot whose generations are used up is used no more, and others go on.
 ghost use Rattle.std.specs.Prelude.{◌≡◌};
 
-use word_slots::log::SeenLog;
-use word_slots::slots::Slots;
 use std::alloc::Global;
 use std::sync::Wait;
 use std::test::Fail;
+use word_slots::log::SeenLog;
+use word_slots::slots::Slots;
 
 // How many lists of free slots there are. The first page has four slots of each.
 const LISTS: u64 = 16;

@@ -15,11 +15,11 @@ use super::PayloadCongee;
 use crate::guard::PayloadGuard;
 use crossbeam_utils::Backoff;
 use live_growth::map::Refusal;
-use word_slots::lent::Lent;
-use word_slots::slots::Slots;
 use spec_map::traits::Word;
 use std::alloc::{AllocFailed, Global};
 use std::sync::Wait;
+use word_slots::lent::Lent;
+use word_slots::slots::Slots;
 
 // `None` with the lifetime of the slots.
 fn nothing<P: Drop>(_slots: &Slots<P>) -> Option<&P>

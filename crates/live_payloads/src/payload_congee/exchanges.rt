@@ -7,10 +7,10 @@ use super::PayloadCongee;
 use crate::guard::PayloadGuard;
 use crossbeam_utils::Backoff;
 use live_growth::map::Refusal;
-use word_slots::lent::Lent;
 use spec_map::traits::Word;
 use std::alloc::{AllocFailed, Global};
 use std::sync::Wait;
+use word_slots::lent::Lent;
 
 impl<K: Word, P: Drop> PayloadCongee<K, P> {
     // Puts a payload into a slot, if there is one.

@@ -11,11 +11,11 @@ use super::PayloadCongee;
 use crate::guard::PayloadGuard;
 use crossbeam_utils::Backoff;
 use live_growth::map::Refusal;
-use word_slots::lent::Lent;
-use word_slots::log::agree;
 use spec_map::traits::Word;
 use std::alloc::{AllocFailed, Global};
 use std::sync::Wait;
+use word_slots::lent::Lent;
+use word_slots::log::agree;
 
 impl<K: Word, P: Drop> PayloadCongee<K, P> {
     // Stores a payload at an absent key, and returns it, lent. Else it comes back: `Refusal::Busy` also where the key was present.

@@ -17,9 +17,6 @@ use crate::guard::PayloadGuard;
 use crossbeam_utils::Backoff;
 use face_payloads::congee_arc::PayloadCongee as Owned;
 use live_copies::moves::{copied, filled};
-use word_slots::lent::Lent;
-use word_slots::log::SeenLog;
-use word_slots::slots::{Lack, Slots};
 use spec_map::error::OOMError;
 use spec_map::payload::Payload;
 use spec_map::traits::Word;
@@ -27,6 +24,9 @@ use std::alloc::{AllocFailed, Global};
 use std::marker::PhantomData;
 use std::sync::Wait;
 use std::sync::atomic::AtomicU64;
+use word_slots::lent::Lent;
+use word_slots::log::SeenLog;
+use word_slots::slots::{Lack, Slots};
 
 // Puts a payload into a slot, and returns its ticket. Pauses where a slot is busy, and goes on.
 fn entered<R: Wait, P: Drop>(

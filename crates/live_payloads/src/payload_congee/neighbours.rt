@@ -14,9 +14,9 @@ use crate::guard::PayloadGuard;
 use crossbeam_utils::Backoff;
 use live_growth::map::{Busy, TRIES};
 use live_scans::{floors, scans};
-use word_slots::lent::Lent;
 use spec_map::traits::Word;
 use std::sync::Wait;
+use word_slots::lent::Lent;
 
 impl<K: Word, P: Drop> PayloadCongee<K, P> {
     // The key and the ticket of the first pair with a key from `from` on, or, downwards, of the last one below it.

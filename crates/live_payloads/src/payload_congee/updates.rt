@@ -9,12 +9,12 @@ use super::PayloadCongee;
 use crate::guard::PayloadGuard;
 use crossbeam_utils::Backoff;
 use live_growth::map::{Busy, Refusal};
-use word_slots::lent::Lent;
-use word_slots::log::agree;
-use word_slots::slots::Lack;
 use spec_map::traits::Word;
 use std::alloc::{AllocFailed, Global};
 use std::sync::Wait;
+use word_slots::lent::Lent;
+use word_slots::log::agree;
+use word_slots::slots::Lack;
 
 impl<K: Word, P: Drop> PayloadCongee<K, P> {
     // Puts a payload into a slot, and returns its ticket.

@@ -38,12 +38,13 @@ module _ (c : After-split-parted) where
       let x = c.split-parted.new.seat.view in
       let s = c.spare_or_made-spare.ensures in
       let e = c.split-parted.ensures in
-      let t = e in
       let some : c.spare_or_made-spare.result ≢ 0 = search rules in
-      (t.book ∙ s.seat.0, t.id ∙ s.seat.1, ready_again_met w x c.spare_or_made-spare.new.room c.split-parted.new.free_nodes c.spare_or_made-spare.result s.ready t.grown t.room (s.sighted (omega (arith, some))) e.free_nodes, t.grown.seen ∙ s.grown.seen)
+      (e.book ∙ s.seat.0, e.id ∙ s.seat.1, ready_again_met w x c.spare_or_made-spare.new.room c.split-parted.new.free_nodes c.spare_or_made-spare.result s.ready e.grown e.room (s.sighted (omega (arith, some))) e.free_nodes, e.grown.seen ∙ s.grown.seen)
 
 pub returns-then-not-parted : goal.returns-then-not-parted
-returns-then-not-parted c = record { book = (told (goal.at.returns-then-not-parted c).After-split-parted).0; id = (told (goal.at.returns-then-not-parted c).After-split-parted).1; ready = (told (goal.at.returns-then-not-parted c).After-split-parted).2; seen = (told (goal.at.returns-then-not-parted c).After-split-parted).3; parted = tt }
+returns-then-not-parted c =
+    let t = told (goal.at.returns-then-not-parted c).After-split-parted in
+    record { book = t.0; id = t.1; ready = t.2; seen = t.3; parted = tt }
 
 pub returns : goal.returns
 returns c =
@@ -55,10 +56,11 @@ returns c =
     let l = c.requires.mismatches.1 in
     let some = l.some_height in
     let lower = l.lower in
+    let t = told (goal.at.returns c).After-split-parted in
     record {
-      book = (told (goal.at.returns c).After-split-parted).0;
-      id = (told (goal.at.returns c).After-split-parted).1;
-      ready = (told (goal.at.returns c).After-split-parted).2;
-      seen = (told (goal.at.returns c).After-split-parted).3;
+      book = t.0;
+      id = t.1;
+      ready = t.2;
+      seen = t.3;
       parted = (position_under x c.args.key c.args.position c.spare_or_made-spare.result c.args.mismatch.at above below.1 (omega (arith, some, lower)) below.0, omega (arith, some, lower));
     }

@@ -30,18 +30,18 @@ Seen = SeatView View
 
 -- THE NODE ABOVE is locked
 module _ (g : Over) (c : In-Some-lock_node g) where
-  above : HasLocked c.args.seat.now.view c.lock_node.new.seat.view c.args.above c.args.key c.args.height c.in-Some-lock_node.free
+  above : HasLocked c.args.seat.now.view c.lock_node.new.seat.view c.args.position.name c.args.key c.args.position.height c.in-Some-lock_node.free
   above =
       let locked : c.lock_node.result ≡ Some c.in-Some-lock_node.free = search rules in
-      taken_by c.lock_node.result c.in-Some-lock_node.free locked (HasLocked c.args.seat.now.view c.lock_node.new.seat.view c.args.above c.args.key c.args.height) c.lock_node.ensures.locked
+      taken_by c.lock_node.result c.in-Some-lock_node.free locked (HasLocked c.args.seat.now.view c.lock_node.new.seat.view c.args.position.name c.args.key c.args.position.height) c.lock_node.ensures.locked
 
   above_form : c.form_below-form.result ≡ above.names.spot.shape.form
   above_form = c.form_below-form.ensures above.names.spot.shape.key above.names.spot.shape.form above.names.named
 
   above_held : HoldsOne c.lock_node.new.seat.view c.lock_node.new.seat.book c.in-Some.words.now c.in-Some-lock_node.free above.names.spot above.content above.content
   above_held =
-      let named = subst (λ z. AreNamed z c.args.above c.in-Some.words.now) (sym (c.lock_node.ensures.book ∙ c.requires.book)) c.in-Some.ensures in
-      holds_one c.args.seat.now.view c.lock_node.new.seat.view c.args.above c.args.key c.args.height c.in-Some-lock_node.free above c.lock_node.new.seat.book c.in-Some.words.now named c.requires.rests.0 c.requires.rests.1
+      let named = subst (λ z. AreNamed z c.args.position.name c.in-Some.words.now) (sym (c.lock_node.ensures.book ∙ c.requires.book)) c.in-Some.ensures in
+      holds_one c.args.seat.now.view c.lock_node.new.seat.view c.args.position.name c.args.key c.args.position.height c.in-Some-lock_node.free above c.lock_node.new.seat.book c.in-Some.words.now named c.requires.rests.0 c.requires.rests.1
 
   above_drafted : draft_of (nth 0 c.lock_node.new.seat.view.holds) ≡ above.content
   above_drafted = draft_is c.lock_node.new.seat.view c.lock_node.new.seat.book c.in-Some.words.now c.in-Some-lock_node.free above.names.spot above.content above.content above_held
@@ -204,7 +204,7 @@ module _ (g : Over) (c : After-change g) where
       let was = above_was g made in
       let before = draft_of (nth 1 c.put.new.seat.view.holds) in
       let changed = change_done c.change.result h.content before was h.its h.encodes c.form_below-form.result (h.in_form ∙ sym form) c.byte_at-byte.result there c.change.ensures.was in
-      let changes = grown_changes q h.content before was da c.form_below-form.result a_of (again q r_of) c.byte_at-byte.result digit_is form c.word_below.result c.args.spare c.word_below.ensures.child (back g held_of).named c.args.height h.names.high c.requires.height.0 (at_result c.change.result changed c.change.ensures.is) in
+      let changes = grown_changes q h.content before was da c.form_below-form.result a_of (again q r_of) c.byte_at-byte.result digit_is form c.word_below.result c.args.spare c.word_below.ensures.child (back g held_of).named c.args.position.height h.names.high c.requires.height.0 (at_result c.change.result changed c.change.ensures.is) in
       let named = λ (k : TableNode ℕ) (encodes : Encodes h.content k) (formed : k.form ≡ a_of.shape.form). subst (λ o. IsBelow (lookup k.children o) (Some has.0)) digit_is (has.1 k (subst (λ o. Encodes o k) (sym drafted) encodes) (formed ∙ sym form)) in
       let spells = λ (i : ℕ) (k : IsWord has.0 (Node i)). has.2 i k ∙ l.named in
       let known : IsIn (watch a_of.number None x) n.client.watched = subst (λ (k : View). IsIn (watch a_of.number None x) k.watched) (sym same_client) l.known in
