@@ -61,7 +61,6 @@ pub fn split<A: Asks>(
     let form = form_below(position.name);
     let kind = form_below(spare);
     let byte = byte_at(key, position.height);
-    let bytes = bytes_of(key);
     let Some(free) = lock_node(words, position.name, position.height, key, seat) else {
         return false;
     };
@@ -82,7 +81,7 @@ pub fn split<A: Asks>(
         return false;
     }
     let new: LockedWords<'_, MapView, MapLaw, 0> = LockedWords { words: others };
-    lay(&new, kind, &bytes[..8 - mismatch.at], seat);
+    lay(&new, kind, &bytes_of(key)[..8 - mismatch.at], seat);
     let child = word_below(mismatch.below, form_below(mismatch.below));
     put(&new, kind, mismatch.byte, child, seat);
     let held: LockedWords<'_, MapView, MapLaw, 1> = LockedWords { words };

@@ -267,8 +267,7 @@ returns-clause-grown g c =
     let places = ap (λ s. s.view.places) pr ∙ (ap (λ s. s.view.places) fr ∙ alike.places) in
     let met = ap (λ s. s.view.client.met) pr ∙ (ap (λ s. s.view.client.met) fr ∙ alike.met) in
     let seen = ap (λ s. s.view.client.seen) pr ∙ (ap (λ s. s.view.client.seen) fr ∙ back_seen g b) in
-    let grown = again_grown c.args.seat.now.view c.put.new.seat.view c.unlock_again.new.seat.view c.unlock.new.seat.view l.0 o.0 g.A.Asks.ask (cr g k) (r_of g k) (a_of g k) (ca g b) (hold (r_of g k).number (c.in-Some-reclaim.again + 2) (dr g k) ∷ []) places met seen (all_own g k) l.1 l.2 o.1 o.2 in
-    grown
+    again_grown c.args.seat.now.view c.put.new.seat.view c.unlock_again.new.seat.view c.unlock.new.seat.view l.0 o.0 g.A.Asks.ask (cr g k) (r_of g k) (a_of g k) (ca g b) (hold (r_of g k).number (c.in-Some-reclaim.again + 2) (dr g k) ∷ []) places met seen (all_own g k) l.1 l.2 o.1 o.2
 
 pub returns-clause-room : goal.returns-clause-room
 returns-clause-room g c =

@@ -191,11 +191,11 @@ module _ (g : Over) (c : After-change g) where
       let x = l.spot in
       let some = l.some_height in
       let lower = l.lower in
-      let bytes = c.bytes_of-bytes.result in
-      let short : length (take (8 - at) bytes) ≡ 8 - at = (let k = length-take (8 - at) bytes in let o = c.bytes_of-bytes.ensures.long in omega (arith, k, o)) in
+      let bytes = c.bytes_of.result in
+      let short : length (take (8 - at) bytes) ≡ 8 - at = (let k = length-take (8 - at) bytes in let o = c.bytes_of.ensures.long in omega (arith, k, o)) in
       let few : length (take (8 - at) bytes) < 7 = omega (arith, short, some, lower) in
       let is = c.put.ensures.is (empty_node c.form_below-kind.result (take (8 - at) bytes)) (Node c.args.mismatch.below) c.lay.ensures.is refl c.word_below-child.ensures.child few refl in
-      let mismatch = again_split q r_of x c.args.key at bytes c.bytes_of-bytes.ensures.long c.bytes_of-bytes.ensures.is c.ranges.key.fits asks.0 asks.1 (omega (arith, some, lower)) c.requires.leaves.level c.form_below-kind.result (back_form g held_of) cr c.args.mismatch.byte c.args.mismatch.below l.named
+      let mismatch = again_split q r_of x c.args.key at bytes c.bytes_of.ensures.long c.bytes_of.ensures.is c.ranges.key.fits asks.0 asks.1 (omega (arith, some, lower)) c.requires.leaves.level c.form_below-kind.result (back_form g held_of) cr c.args.mismatch.byte c.args.mismatch.below l.named
       (subst (λ k. Encodes k (with_child (empty_node c.form_below-kind.result (take (8 - at) bytes)) c.args.mismatch.byte (Some (Node c.args.mismatch.below)))) (sym same_draft) is) in
       let digit_is = c.byte_at-byte.ensures ∙ ap (λ (k : ℕ × ℕ). digit k.0 k.1) (λ i. (sym h.names.high i, sym asks.0 i)) in
       let covers = ap (up a_of.shape.height) asks.0 ∙ h.names.covers in
@@ -213,7 +213,7 @@ module _ (g : Over) (c : After-change g) where
       let y_top : bytes_above x.shape q.height ≡ up q.height q.key = ap (bytes_above x.shape) asks.1 ∙ (l.top ∙ up_y) in
       let y_byte : bytes_above x.shape (q.height - 1) ≡ 256 * up q.height q.key + c.args.mismatch.byte = ap (λ (k : ℕ). bytes_above x.shape (k - 1)) asks.1 ∙ (l.byte_is ∙ ap (λ (k : ℕ). 256 * k + c.args.mismatch.byte) up_y) in
       let long = c.change.ensures.long ∙ ap words_of form in
-      let inside = c.if-mismatch-height.false in
+      let inside = c.if-mismatch-position.false in
       let even = h.even in
       link_above q c.change.new.seat.id n.client r_of x a_of c.args.mismatch.byte cr h.content all_own known (c.in-Some-lock_node.free + 4) (c.in-Some-lock_node.free / 4 + 1) (omega (arith, even)) da
       (omega (arith, asks.1, high_a, inside)) some (omega (arith, lower, asks.1)) covers y_top l.low y_byte long changes has.0 named spells mismatch
@@ -437,8 +437,7 @@ returns-clause-grown g c =
     let in_places = λ (i : Place) (m : IsIn i c.args.seat.now.view.places). subst (λ (ps : List Place). IsIn i ps) (sym places) (keeps.places i (subst (λ (ps : List Place). IsIn i ps) (sym alike.places) m)) in
     let in_met = λ (i : Spot) (m : IsIn i c.args.seat.now.view.client.met). subst (λ (ls : List Spot). IsIn i ls) (sym (ap (λ (v : View). v.met) (same_client g k))) (keeps.met i (subst (λ (ls : List Spot). IsIn i ls) (sym alike.met) m)) in
     let seen = ap (λ (v : View). v.seen) (same_client g k) ∙ (c.parts.ensures.seen ∙ back_seen g b) in
-    let grown = again_grown_on c.args.seat.now.view c.change.new.seat.view c.unlock_again.new.seat.view c.unlock.new.seat.view l.0 fx.0 g.A.Asks.ask (cr g k) (r_of g k) (a_of g k) (ca g b) (hold (r_of g k).number (c.in-Some-reclaim.back + 2) (dr g k) ∷ []) in_places in_met seen (all_own g k) l.1 l.2 fx.1 fx.2 in
-    grown
+    again_grown_on c.args.seat.now.view c.change.new.seat.view c.unlock_again.new.seat.view c.unlock.new.seat.view l.0 fx.0 g.A.Asks.ask (cr g k) (r_of g k) (a_of g k) (ca g b) (hold (r_of g k).number (c.in-Some-reclaim.back + 2) (dr g k) ∷ []) in_places in_met seen (all_own g k) l.1 l.2 fx.1 fx.2
 
 pub returns-clause-room : goal.returns-clause-room
 returns-clause-room g c =
@@ -464,7 +463,7 @@ returns-clause-parted g c =
     let l = linked g u in
     let at_r = (first_word (place_at (r_of g k)) c.unlock_again.new.seat.book c.in-Some-words_at.others.now (grip g u).are c.index-others-0-2.result c.index-others-0-2.result (sym c.index-others-0-2.is)).0 in
     let fx = grip_freed c.unlock_again.new.seat.view c.unlock_again.new.seat.book c.in-Some-words_at.others.now c.in-Some-reclaim.back (place_at (r_of g k)) (dr g k) (grip g u) c.index-others-0-2.result.key at_r StaysSame c.unlock.new.seat.view (c.in-Some-reclaim.back + 4) c.unlock.ensures.freed in
-    let inside = c.if-mismatch-height.false in
+    let inside = c.if-mismatch-position.false in
     λ _. (
       omega (arith, inside),
       again_names c.change.new.seat.view c.unlock_again.new.seat.view c.unlock.new.seat.view l.0 fx.0 g.A.Asks.ask (cr g k) (r_of g k) (a_of g k) (ca g b) (hold (r_of g k).number (c.in-Some-reclaim.back + 2) (dr g k) ∷ []) c.args.key c.args.mismatch.at c.args.spare
