@@ -6,8 +6,8 @@ pub use Rattle.face_runs.specs.Conversion
 pub use Rattle.face_runs.specs.PayloadCalls
 pub use Rattle.face_runs.specs.U64Calls
 pub use Rattle.live_faces.specs.Returned
-pub use Rattle.live_law.specs.Known as LiveKnown
-pub use Rattle.live_law.specs.Views as LiveViews
+pub use Rattle.live_nodes.specs.Known as LiveKnown
+pub use Rattle.live_nodes.specs.Views as LiveViews
 pub use Rattle.live_payloads.specs.Payloads
 pub use Rattle.share_backend.specs.Reads
 pub use Rattle.share_calls.specs.Computed

@@ -2,7 +2,7 @@
 //! (`guard_laws`), and calls as data.
 //!
 //! Tested in `test_owned`, `share_maps`, `test_share_guards`, `test_share_shards`, `test_live_faces` and
-//! `test_live_slots`.
+//! `test_live_payloads`.
 #![tactic(auto)]
 
 pub mod live;

@@ -1,7 +1,7 @@
 //! The map that threads read without a lock: of numbers, of payloads and of owners. With it what its callers may conclude
 //! (`guard_laws`).
 //!
-//! Tested in `test_live_faces` and `test_live_slots`.
+//! Tested in `test_live_faces` and `test_live_payloads`.
 #![tactic(auto)]
 
 pub use live_faces::live::{Busy, Congee, Guard, Note, Refusal, learn, meet};

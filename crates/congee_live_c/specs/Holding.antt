@@ -1,5 +1,5 @@
 -- What contracts see of what a handle holds.
-use Rattle.live_law.specs.Known.{Known}
+use Rattle.live_nodes.specs.Known.{Known}
 
 -- what its guard knows
 pub record Holding : Type 0 where

@@ -3,7 +3,7 @@
 //! Tested in `tools/c-library`.
 
 ghost use Rattle.std.specs.Prelude.{◌≡◌, ◌≢◌, ◌⊎◌, None, Some, Ok, Err, pos};
-ghost use Rattle.live_law.specs.Known.{MadeCall};
+ghost use Rattle.live_nodes.specs.Known.{MadeCall};
 ghost use Rattle.live_updates.specs.Refusals.{FoundNone};
 ghost use Rattle.live_updates.specs.Entries.{swapped};
 ghost use Rattle.live_updates.specs.ClosureEntries.{inserted_with, sum_with};

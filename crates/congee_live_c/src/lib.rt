@@ -13,8 +13,8 @@
 #![tactic(auto)]
 
 ghost use Rattle.std.specs.Prelude.{◌≡◌, ◌≢◌, ◌⊎◌, ◌≤◌, [], Some, None, Ok, Err, IfSome, IsSome, pos};
-ghost use Rattle.live_law.specs.Views.{ask, got, inserted};
-ghost use Rattle.live_law.specs.Known.{MadeCall};
+ghost use Rattle.live_nodes.specs.Views.{ask, got, inserted};
+ghost use Rattle.live_nodes.specs.Known.{MadeCall};
 ghost use Rattle.live_reads.specs.Meetings.{SeenMore};
 ghost use Rattle.live_updates.specs.Refusals.{FoundNone};
 ghost use Rattle.live_updates.specs.Entries.{removed, swapped};

@@ -4,8 +4,8 @@ use Rattle.std.specs.Option.{option_map}
 use Rattle.spec_map.specs.Map.{Pairs}
 use Rattle.share_laws.specs.Keys.{AllLeave, finds, inserts}
 use Rattle.share_rule.specs.History.{Entry, IsHistory}
-use Rattle.live_law.specs.Known.{Known, MadeCall}
-use Rattle.live_law.specs.Views.{ask, got, inserted}
+use Rattle.live_nodes.specs.Known.{Known, MadeCall}
+use Rattle.live_nodes.specs.Views.{ask, got, inserted}
 use Rattle.live_reads.specs.Meetings.{SeenMore}
 use Rattle.example_live.specs.Callers.{HandedOver}
 

@@ -3,8 +3,8 @@ use Rattle.std.proofs.Common.{◌≡◌, ℕ, List, [], ◌++◌, nat_eq, Result
 use Rattle.spec_map.specs.Map.{Pairs}
 use Rattle.share_rule.specs.History.{entries_of, IsHistory}
 use Rattle.live_nodes.specs.Seats.{Place, SeatView, IsIn}
-use Rattle.live_law.specs.Levels.{up, Spot}
-use Rattle.live_law.specs.Views.{View}
+use Rattle.live_nodes.specs.Levels.{up, Spot}
+use Rattle.live_nodes.specs.Views.{View}
 use Rattle.live_reads.specs.Paths.{Keeps}
 use Rattle.live_growth.specs.Holds.{Alike}
 use Rattle.live_scans.specs.inner.Moments.{SeesMore}

@@ -1,8 +1,8 @@
 -- What a reader knows goes on.
 use Rattle.std.proofs.Common.{◌≡◌, ℕ, ◌<◌, ◌≤◌, Option, Some, None, IfSome, sym, ◌∙◌, subst}
 use Rattle.live_nodes.specs.Seats.{SeatView}
-use Rattle.live_law.specs.Levels.{up, digit, place_at}
-use Rattle.live_law.specs.Views.{View}
+use Rattle.live_nodes.specs.Levels.{up, digit, place_at}
+use Rattle.live_nodes.specs.Views.{View}
 use Rattle.live_reads.specs.Paths.{Names, Sights, Keeps}
 use Rattle.live_copies.specs.declared.children.Child.{Child}
 use Rattle.live_copies.specs.inner.Children.{IsChild}

@@ -5,7 +5,7 @@ use Rattle.spec_map.specs.Map.{Pairs, Rises, put}
 use Rattle.spec_map.proofs.JoinLaws.{Rises-append, put-append_right}
 use Rattle.share_rule.specs.History.{Entry, IsHistory}
 use Rattle.congee_tree.specs.Bulk.{put_all}
-use Rattle.live_law.specs.Known.{Known}
+use Rattle.live_nodes.specs.Known.{Known}
 use Rattle.live_scans.specs.Scans.{HasWaited, Waits}
 use Rattle.live_scans.proofs.Pages.{waited_more}
 use Rattle.live_copies.specs.Copies.{HasCopied}

@@ -9,8 +9,8 @@ use Rattle.live_nodes.specs.Plays.{hold_of}
 use Rattle.live_nodes.specs.Rows.{nth, draft_of, MayHold}
 use Rattle.live_layout.specs.Encodes.{Encodes}
 use Rattle.live_layout.specs.Page.{AreListed, pairs_of}
-use Rattle.live_law.specs.Levels.{up, Shape, place_at}
-use Rattle.live_law.specs.Views.{View, Own, locked}
+use Rattle.live_nodes.specs.Levels.{up, Shape, place_at}
+use Rattle.live_nodes.specs.Views.{View, Own, locked}
 use Rattle.live_growth.proofs.Locks.{hold_head}
 use Rattle.live_copies.specs.inner.Told.{IsContent, first_of, end_of, HasPairs}
 use Rattle.live_copies.specs.inner.Locks.{HasTaken, Takes}

@@ -3,9 +3,9 @@ use Rattle.std.proofs.Common.{◌≡◌, ℕ, ◌+◌, List, [], ◌∷◌, ◌+
 use Rattle.word_book.specs.Book.{Book, Name}
 use Rattle.live_nodes.specs.Seats.{Place, Hold, hold, SeatView, IsIn, Each}
 use Rattle.live_nodes.specs.Rows.{AreOf}
-use Rattle.live_law.specs.Levels.{Spot, place_at}
-use Rattle.live_law.specs.Views.{View, Own, locked, rest_of}
-use Rattle.live_law.specs.Tree.{IsApart}
+use Rattle.live_nodes.specs.Levels.{Spot, place_at}
+use Rattle.live_nodes.specs.Views.{View, Own, locked, rest_of}
+use Rattle.live_nodes.specs.Tree.{IsApart}
 use Rattle.live_reads.specs.Paths.{AreNamed, Keeps}
 use Rattle.live_growth.specs.Holds.{Alike, HasLocked}
 use Rattle.live_growth.proofs.Again.{Beside}

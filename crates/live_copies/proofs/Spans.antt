@@ -6,8 +6,8 @@ use Rattle.std.proofs.lemmas.Nat.{pow-add}
 use Rattle.spec_map.specs.Map.{Pairs, lookup, Rises}
 use Rattle.spec_map.proofs.MapLaws.{lookup-below}
 use Rattle.spec_map.proofs.JoinLaws.{lookup-above}
-use Rattle.live_law.specs.Levels.{up, digit, Shape, Covers, bytes_above}
-use Rattle.live_law.proofs.Plans.{joined}
+use Rattle.live_nodes.specs.Levels.{up, digit, Shape, Covers, bytes_above}
+use Rattle.live_nodes.proofs.Plans.{joined}
 use Rattle.live_scans.proofs.Uppers.{up-filled}
 use Rattle.live_copies.specs.inner.Told.{first_of, end_of}
 use Rattle.live_copies.specs.inner.Noted.{start_of}

@@ -11,9 +11,9 @@ use Rattle.share_rule.specs.History.{IsHistory}
 use Rattle.live_nodes.specs.Nodes.{Content}
 use Rattle.live_nodes.specs.Seats.{IsIn}
 use Rattle.live_layout.specs.Encodes.{Encodes, AreOfKind, IsBelow, IsWord, payload_of}
-use Rattle.live_law.specs.Levels.{up, digit, Shape, name_of, Covers, bytes_above, Spot}
-use Rattle.live_law.specs.Views.{Own, locked, View}
-use Rattle.live_law.proofs.Plans.{joined, bytes_above-key, root-top}
+use Rattle.live_nodes.specs.Levels.{up, digit, Shape, name_of, Covers, bytes_above, Spot}
+use Rattle.live_nodes.specs.Views.{Own, locked, View}
+use Rattle.live_nodes.proofs.Plans.{joined, bytes_above-key, root-top}
 use Rattle.live_copies.specs.inner.Told.{TellsBelow, TellsUnder, TellsNoted, IsNoted, IsContent, Tells, first_of, end_of, HasPairs}
 use Rattle.live_copies.specs.inner.Noted.{start_of, HasNoted}
 use Rattle.live_copies.specs.inner.Whole.{HasWhole}

@@ -6,8 +6,8 @@ use Rattle.word_book.specs.Book.{Book, Name}
 use Rattle.live_nodes.specs.Nodes.{Content}
 use Rattle.live_nodes.specs.Seats.{SeatView, IsIn}
 use Rattle.live_layout.specs.Encodes.{Encodes}
-use Rattle.live_law.specs.Levels.{up, digit, place_at}
-use Rattle.live_law.specs.Views.{View, Own, locked}
+use Rattle.live_nodes.specs.Levels.{up, digit, place_at}
+use Rattle.live_nodes.specs.Views.{View, Own, locked}
 use Rattle.live_reads.specs.Paths.{Names, Keeps}
 use Rattle.live_copies.specs.declared.children.Child.{Child}
 use Rattle.live_copies.specs.declared.locks.Lock.{Lock}

@@ -18,12 +18,12 @@ use Rattle.live_nodes.specs.Acts as acts
 use Rattle.live_nodes.specs.Plays as plays
 use Rattle.live_nodes.specs.Plays.{Takes, Checks}
 use Rattle.live_nodes.specs.Calls.{MayCheck}
-use Rattle.live_law.specs.Levels.{up, digit, Covers, Shape, Spot}
-use Rattle.live_law.specs.Views.{View, view_of, locked}
-use Rattle.live_law.specs.Tree.{IsMap, IsCurrent, IsUnder, IsSpot, IsOwn, IsLocked, home_of}
-use Rattle.live_law.proofs.Histories.{sees_all}
-use Rattle.live_law.proofs.Looks.{with_view, at_leaf, at_inner}
-use Rattle.live_law.proofs.Plans.{at_home, digit-low, joined, missed, none_there, same_name}
+use Rattle.live_nodes.specs.Levels.{up, digit, Covers, Shape, Spot}
+use Rattle.live_nodes.specs.Views.{View, view_of, locked}
+use Rattle.live_nodes.specs.Tree.{IsMap, IsCurrent, IsUnder, IsSpot, IsOwn, IsLocked, home_of}
+use Rattle.live_nodes.proofs.Histories.{sees_all}
+use Rattle.live_nodes.proofs.Looks.{with_view, at_leaf, at_inner}
+use Rattle.live_nodes.proofs.Plans.{at_home, digit-low, joined, missed, none_there, same_name}
 use Rattle.live_reads.specs.Paths.{KnowsRootWord, Keeps}
 use Rattle.live_reads.proofs.Views.{head_read, learned_keeps, reading, reading_keeps, root_word_taken}
 use Rattle.live_updates.proofs.Rising.{history_ascends}

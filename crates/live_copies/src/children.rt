@@ -1,6 +1,6 @@
 //! The children of a node, as a reader finds them.
 ghost use Rattle.std.specs.Prelude.{◌≡◌, ◌<◌, ◌≤◌, IfSome};
-ghost use Rattle.live_law.specs.Levels.{up, digit};
+ghost use Rattle.live_nodes.specs.Levels.{up, digit};
 ghost use Rattle.live_reads.specs.Paths.{Names, Sights, Keeps};
 ghost use Rattle.live_copies.specs.inner.Children.{IsChild, IsFound};
 
@@ -42,9 +42,10 @@ fn with_byte(key: u64, height: usize, byte: u8) -> u64 {
 fn next_byte(nodes: &Nodes, name: u64, from: u8, seat: &mut Seat) -> Option<Option<(u8, u64)>>
     requires book { seat.old.book ≡ nodes.now }
     requires sighted { Sights seat.old.view name }
-    ensures told { (seat.new.book ≡ seat.old.book) × (seat.new.id ≡ seat.old.id)
-        × Keeps seat.old.view seat.new.view
-        × (seat.new.view.client.seen ≡ seat.old.view.client.seen) }
+    ensures book { seat.new.book ≡ seat.old.book }
+    ensures id { seat.new.id ≡ seat.old.id }
+    ensures keeps { Keeps seat.old.view seat.new.view }
+    ensures seen { seat.new.view.client.seen ≡ seat.old.view.client.seen }
 {
     let here = open(nodes, name, seat)?;
     let form = form_below(name);
@@ -57,10 +58,11 @@ fn next_byte(nodes: &Nodes, name: u64, from: u8, seat: &mut Seat) -> Option<Opti
 fn meet_some(nodes: &Nodes, name: u64, key: u64, byte: u8, seat: &mut Seat) -> Option<Child>
     requires book { seat.old.book ≡ nodes.now }
     requires sighted { Sights seat.old.view name }
-    ensures told { (seat.new.book ≡ seat.old.book) × (seat.new.id ≡ seat.old.id)
-        × Keeps seat.old.view seat.new.view
-        × (seat.new.view.client.seen ≡ seat.old.view.client.seen)
-        × IfSome result (λ c. Names seat.new.view c.name c.key c.height
+    ensures book { seat.new.book ≡ seat.old.book }
+    ensures id { seat.new.id ≡ seat.old.id }
+    ensures keeps { Keeps seat.old.view seat.new.view }
+    ensures seen { seat.new.view.client.seen ≡ seat.old.view.client.seen }
+    ensures child { IfSome result (λ c. Names seat.new.view c.name c.key c.height
         × (1 ≤ c.height) × (c.byte ≡ byte)) }
 {
     let mut key = key;
@@ -86,10 +88,11 @@ fn name_under(nodes: &Nodes, name: u64, height: usize, key: u64, seat: &mut Seat
     requires book { seat.old.book ≡ nodes.now }
     requires sighted { Sights seat.old.view name }
     requires height { (2 ≤ height) × (height ≤ 8) }
-    ensures told { (seat.new.book ≡ seat.old.book) × (seat.new.id ≡ seat.old.id)
-        × Keeps seat.old.view seat.new.view
-        × (seat.new.view.client.seen ≡ seat.old.view.client.seen)
-        × IfSome result (λ below. Sights seat.new.view below) }
+    ensures book { seat.new.book ≡ seat.old.book }
+    ensures id { seat.new.id ≡ seat.old.id }
+    ensures keeps { Keeps seat.old.view seat.new.view }
+    ensures seen { seat.new.view.client.seen ≡ seat.old.view.client.seen }
+    ensures below { IfSome result (λ below. Sights seat.new.view below) }
 {
     let here = enter(nodes, name, height, key, seat)?;
     match look::<Brand>(here, name, height, key, seat) {
@@ -127,10 +130,11 @@ fn child_under(
     requires book { seat.old.book ≡ nodes.now }
     requires sighted { Sights seat.old.view name }
     requires height { (2 ≤ height) × (height ≤ 8) }
-    ensures told { (seat.new.book ≡ seat.old.book) × (seat.new.id ≡ seat.old.id)
-        × Keeps seat.old.view seat.new.view
-        × (seat.new.view.client.seen ≡ seat.old.view.client.seen)
-        × IfSome result (λ c. IsChild seat.new.view key height c × (c.byte ≡ byte)) }
+    ensures book { seat.new.book ≡ seat.old.book }
+    ensures id { seat.new.id ≡ seat.old.id }
+    ensures keeps { Keeps seat.old.view seat.new.view }
+    ensures seen { seat.new.view.client.seen ≡ seat.old.view.client.seen }
+    ensures child { IfSome result (λ c. IsChild seat.new.view key height c × (c.byte ≡ byte)) }
 {
     let first = with_byte(key, height, byte);
     let below = name_under(nodes, name, height, first, seat)?;
@@ -150,10 +154,11 @@ fn try_next(
     requires book { seat.old.book ≡ nodes.now }
     requires sighted { Sights seat.old.view name }
     requires height { (2 ≤ height) × (height ≤ 8) }
-    ensures told { (seat.new.book ≡ seat.old.book) × (seat.new.id ≡ seat.old.id)
-        × Keeps seat.old.view seat.new.view
-        × (seat.new.view.client.seen ≡ seat.old.view.client.seen)
-        × IsFound seat.new.view key height from result }
+    ensures book { seat.new.book ≡ seat.old.book }
+    ensures id { seat.new.id ≡ seat.old.id }
+    ensures keeps { Keeps seat.old.view seat.new.view }
+    ensures seen { seat.new.view.client.seen ≡ seat.old.view.client.seen }
+    ensures found { IsFound seat.new.view key height from result }
 {
     match next_byte(nodes, name, from, seat)? {
         None => Some(None),
@@ -178,10 +183,11 @@ pub(crate) fn next_child(
     requires book { seat.old.book ≡ nodes.now }
     requires sighted { Sights seat.old.view name }
     requires height { (2 ≤ height) × (height ≤ 8) }
-    ensures told { (seat.new.book ≡ seat.old.book) × (seat.new.id ≡ seat.old.id)
-        × Keeps seat.old.view seat.new.view
-        × (seat.new.view.client.seen ≡ seat.old.view.client.seen)
-        × IsFound seat.new.view key height from result }
+    ensures book { seat.new.book ≡ seat.old.book }
+    ensures id { seat.new.id ≡ seat.old.id }
+    ensures keeps { Keeps seat.old.view seat.new.view }
+    ensures seen { seat.new.view.client.seen ≡ seat.old.view.client.seen }
+    ensures found { IsFound seat.new.view key height from result }
 {
     for _ in 0..TRIES {
         if let Some(found) = try_next(nodes, name, height, key, from, seat) {

@@ -31,11 +31,12 @@ fn take_all<'a>(
     requires root { Names seat.old.view root 0 8 }
     requires locks { HasLocks seat.old.view seat.old.book work.old.locks.items }
     requires none { work.old.pairs.items ≡ [] }
-    ensures told { (seat.new.book ≡ seat.old.book) × (seat.new.id ≡ seat.old.id)
-        × Knows seat.old.view seat.new.view
-        × HasLocks seat.new.view seat.new.book work.new.locks.items
-        × SeesMore seat.new.view.client.seen seat.old.id seat.old.view.client.seen
-        × IfOk result (λ _. IsHistory nat_eq seat.new.view.client.seen work.new.pairs.items) }
+    ensures book { seat.new.book ≡ seat.old.book }
+    ensures id { seat.new.id ≡ seat.old.id }
+    ensures knows { Knows seat.old.view seat.new.view }
+    ensures locks { HasLocks seat.new.view seat.new.book work.new.locks.items }
+    ensures seen { SeesMore seat.new.view.client.seen seat.old.id seat.old.view.client.seen }
+    ensures pairs { IfOk result (λ _. IsHistory nat_eq seat.new.view.client.seen work.new.pairs.items) }
 {
     take(nodes, root, 8, 0, work, seat)?;
     if !whole::<Brand>(nodes, seat) {
@@ -55,10 +56,11 @@ fn copy_once(
     requires root_word { KnowsRootWord seat.old.view }
     requires root { Names seat.old.view root 0 8 }
     requires rests { (seat.old.view.client.own ≡ []) × (seat.old.view.holds ≡ []) }
-    ensures told { (seat.new.book ≡ seat.old.book) × (seat.new.id ≡ seat.old.id)
-        × Keeps seat.old.view seat.new.view
-        × SeesMore seat.new.view.client.seen seat.old.id seat.old.view.client.seen
-        × IfOk result (λ pairs. IsHistory nat_eq seat.new.view.client.seen pairs.items) }
+    ensures book { seat.new.book ≡ seat.old.book }
+    ensures id { seat.new.id ≡ seat.old.id }
+    ensures keeps { Keeps seat.old.view seat.new.view }
+    ensures seen { SeesMore seat.new.view.client.seen seat.old.id seat.old.view.client.seen }
+    ensures pairs { IfOk result (λ pairs. IsHistory nat_eq seat.new.view.client.seen pairs.items) }
 {
     let mut work = Work {
         locks: Vec::new(alloc),

@@ -5,10 +5,10 @@ ghost use Rattle.live_copies.specs.inner.Locks.{HasLocks, Grows, HasTaken, Takes
 
 use crate::locks::{Work, lock_noted};
 use live_growth::map::Refusal;
-use live_law::law::{MapLaw, MapView};
 use live_layout::form::{form_below, words_in};
 use live_layout::page::{Part, fill};
 use live_layout::words::AsReadWords;
+use live_nodes::map_law::{MapLaw, MapView};
 use live_nodes::rows::LockedWords;
 use live_reads::path::{Cell, Nodes, Seat};
 
@@ -57,10 +57,11 @@ pub(crate) fn take_leaf<'a>(
     requires book { seat.old.book ≡ nodes.now }
     requires named { Names seat.old.view name key 1 }
     requires locks { HasLocks seat.old.view seat.old.book work.old.locks.items }
-    ensures told { (seat.new.book ≡ seat.old.book) × (seat.new.id ≡ seat.old.id)
-        × Grows seat.old.view seat.new.view
-        × HasLocks seat.new.view seat.new.book work.new.locks.items
-        × IfOk result (λ _. Takes seat.new.view name key 1
+    ensures book { seat.new.book ≡ seat.old.book }
+    ensures id { seat.new.id ≡ seat.old.id }
+    ensures grows { Grows seat.old.view seat.new.view }
+    ensures locks { HasLocks seat.new.view seat.new.book work.new.locks.items }
+    ensures takes { IfOk result (λ _. Takes seat.new.view name key 1
         work.old.pairs.items work.new.pairs.items) }
 {
     let words = lock_noted(nodes, name, 1, key, &mut work.locks, seat)?;

@@ -1,6 +1,6 @@
 //! The nodes that a copy has locked, one after the other.
 ghost use Rattle.std.specs.Prelude.{◌≡◌, ◌%◌, ◌<◌, ◌^◌, [], drop, List, IfOk, IfSome, IfNone};
-ghost use Rattle.live_law.specs.Views.{rest_of};
+ghost use Rattle.live_nodes.specs.Views.{rest_of};
 ghost use Rattle.live_reads.specs.Paths.{Names, AreNamed};
 ghost use Rattle.live_growth.specs.Holds.{Alike, HasLocked};
 ghost use Rattle.live_copies.specs.declared.locks.Lock.{Lock};
@@ -8,7 +8,7 @@ ghost use Rattle.live_copies.specs.inner.Locks.{IsTop, HasLocks, Grows, HasTaken
 
 use live_growth::held::lock_node;
 use live_growth::map::Refusal;
-use live_law::law::{MapLaw, MapView, Same};
+use live_nodes::map_law::{MapLaw, MapView, Same};
 use live_nodes::node;
 use live_reads::path::{Cell, Nodes, Seat, words_at};
 
@@ -33,11 +33,12 @@ pub(crate) struct Work<'a> {
 fn unlock_one(words: &[Cell], free: u64, seat: &mut Seat)
     requires word { (free % 4 ≡ 0) × (free < 2 ^ 62) }
     requires top { (before : List Lock) × IsTop seat.old.view seat.old.book words.now free before }
-    ensures told { (seat.new.book ≡ seat.old.book) × (seat.new.id ≡ seat.old.id)
-        × Alike seat.old.view seat.new.view
-        × (seat.new.view.client.own ≡ rest_of seat.old.view.client.own)
-        × (seat.new.view.holds ≡ drop 1 seat.old.view.holds)
-        × (seat.new.view.client.seen ≡ seat.old.view.client.seen) }
+    ensures book { seat.new.book ≡ seat.old.book }
+    ensures id { seat.new.id ≡ seat.old.id }
+    ensures alike { Alike seat.old.view seat.new.view }
+    ensures own { seat.new.view.client.own ≡ rest_of seat.old.view.client.own }
+    ensures holds { seat.new.view.holds ≡ drop 1 seat.old.view.holds }
+    ensures seen { seat.new.view.client.seen ≡ seat.old.view.client.seen }
 {
     node::unlock::<MapView, MapLaw, Same>(&words[0], free, seat);
 }
@@ -52,9 +53,10 @@ fn lock_patiently(
 ) -> Option<u64>
     requires words { AreNamed seat.old.book name words.now }
     requires named { Names seat.old.view name key height }
-    ensures told { (seat.new.book ≡ seat.old.book) × (seat.new.id ≡ seat.old.id)
-        × IfSome result (λ free. HasLocked seat.old.view seat.new.view name key height free)
-        × IfNone result (Alike seat.old.view seat.new.view
+    ensures book { seat.new.book ≡ seat.old.book }
+    ensures id { seat.new.id ≡ seat.old.id }
+    ensures locked { IfSome result (λ free. HasLocked seat.old.view seat.new.view name key height free) }
+    ensures none { IfNone result (Alike seat.old.view seat.new.view
         × (seat.new.view.client ≡ seat.old.view.client)
         × (seat.new.view.holds ≡ seat.old.view.holds)) }
 {
@@ -78,10 +80,11 @@ pub(crate) fn lock_noted<'a>(
     requires book { seat.old.book ≡ nodes.now }
     requires named { Names seat.old.view name key height }
     requires locks { HasLocks seat.old.view seat.old.book locks.old.items }
-    ensures told { (seat.new.book ≡ seat.old.book) × (seat.new.id ≡ seat.old.id)
-        × Grows seat.old.view seat.new.view
-        × HasLocks seat.new.view seat.new.book locks.new.items
-        × IfOk result (λ words.
+    ensures book { seat.new.book ≡ seat.old.book }
+    ensures id { seat.new.id ≡ seat.old.id }
+    ensures grows { Grows seat.old.view seat.new.view }
+    ensures locks { HasLocks seat.new.view seat.new.book locks.new.items }
+    ensures taken { IfOk result (λ words.
         HasTaken seat.new.view seat.new.book name key height words.now) }
 {
     let Some(words) = words_at(nodes, name) else {
@@ -100,10 +103,12 @@ pub(crate) fn lock_noted<'a>(
 /// Unlocks all nodes, the last one first.
 pub(crate) fn unlock_all(locks: &mut Vec<Lock<'_>>, seat: &mut Seat)
     requires locks { HasLocks seat.old.view seat.old.book locks.old.items }
-    ensures told { (seat.new.book ≡ seat.old.book) × (seat.new.id ≡ seat.old.id)
-        × Alike seat.old.view seat.new.view
-        × (seat.new.view.client.own ≡ []) × (seat.new.view.holds ≡ [])
-        × (seat.new.view.client.seen ≡ seat.old.view.client.seen) }
+    ensures book { seat.new.book ≡ seat.old.book }
+    ensures id { seat.new.id ≡ seat.old.id }
+    ensures alike { Alike seat.old.view seat.new.view }
+    ensures own { seat.new.view.client.own ≡ [] }
+    ensures holds { seat.new.view.holds ≡ [] }
+    ensures seen { seat.new.view.client.seen ≡ seat.old.view.client.seen }
 {
     while let Some(Lock { words, free }) = locks.pop() {
         unlock_one(words, free, seat);

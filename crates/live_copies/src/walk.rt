@@ -10,8 +10,8 @@ use crate::leaf::take_leaf;
 use crate::locks::{Work, lock_noted};
 use crate::names::has_children;
 use live_growth::map::Refusal;
-use live_law::law::{MapLaw, MapView};
 use live_layout::form::form_below;
+use live_nodes::map_law::{MapLaw, MapView};
 use live_nodes::rows::LockedWords;
 use live_reads::path::{Nodes, Seat};
 
@@ -29,10 +29,11 @@ fn close<'a>(
     requires named { Names seat.old.view name key height }
     requires height { (2 ≤ height) × (height ≤ 8) }
     requires locks { HasLocks seat.old.view seat.old.book work.old.locks.items }
-    ensures told { (seat.new.book ≡ seat.old.book) × (seat.new.id ≡ seat.old.id)
-        × Grows seat.old.view seat.new.view
-        × HasLocks seat.new.view seat.new.book work.new.locks.items
-        × (work.new.pairs ≡ work.old.pairs) }
+    ensures book { seat.new.book ≡ seat.old.book }
+    ensures id { seat.new.id ≡ seat.old.id }
+    ensures grows { Grows seat.old.view seat.new.view }
+    ensures locks { HasLocks seat.new.view seat.new.book work.new.locks.items }
+    ensures pairs { work.new.pairs ≡ work.old.pairs }
     ensures has { IfOk result (λ _. (pairs : Pairs ℕ)
         → HasNoted seat.old.view.client.own (place_above key height) 256 names.now pairs
         → HasTold seat.new.view name key height pairs) }
@@ -58,10 +59,11 @@ pub(crate) fn take<'a>(
     requires named { Names seat.old.view name key height }
     requires height { (1 ≤ height) × (height ≤ 8) }
     requires locks { HasLocks seat.old.view seat.old.book work.old.locks.items }
-    ensures told { (seat.new.book ≡ seat.old.book) × (seat.new.id ≡ seat.old.id)
-        × Grows seat.old.view seat.new.view
-        × HasLocks seat.new.view seat.new.book work.new.locks.items
-        × IfOk result (λ _. Takes seat.new.view name key height
+    ensures book { seat.new.book ≡ seat.old.book }
+    ensures id { seat.new.id ≡ seat.old.id }
+    ensures grows { Grows seat.old.view seat.new.view }
+    ensures locks { HasLocks seat.new.view seat.new.book work.new.locks.items }
+    ensures takes { IfOk result (λ _. Takes seat.new.view name key height
         work.old.pairs.items work.new.pairs.items) }
 {
     if height < 2 {

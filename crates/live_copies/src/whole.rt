@@ -4,7 +4,7 @@ ghost use Rattle.live_reads.specs.Paths.{KnowsRootWord, Keeps};
 ghost use Rattle.live_copies.specs.inner.Whole.{HasWhole};
 
 use crate::on_check::Whole;
-use live_law::law::{Asks, MapLaw, MapView};
+use live_nodes::map_law::{Asks, MapLaw, MapView};
 use live_nodes::node;
 use live_reads::path::{Nodes, Seat};
 
@@ -14,8 +14,9 @@ pub(crate) fn whole<A: Asks>(nodes: &Nodes, seat: &mut Seat) -> bool
     requires book { seat.old.book ≡ nodes.now }
     requires asks { A.ask.caller ≡ seat.old.id }
     requires root_word { KnowsRootWord seat.old.view }
-    ensures told { (seat.new.book ≡ seat.old.book) × (seat.new.id ≡ seat.old.id)
-        × Keeps seat.old.view seat.new.view }
+    ensures book { seat.new.book ≡ seat.old.book }
+    ensures id { seat.new.id ≡ seat.old.id }
+    ensures keeps { Keeps seat.old.view seat.new.view }
     ensures whole { IsTrue result
         → HasWhole seat.old.id seat.old.view.client seat.new.view.client }
     ensures busy { IsFalse result → seat.new.view.client ≡ seat.old.view.client }

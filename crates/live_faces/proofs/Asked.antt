@@ -1,6 +1,6 @@
 -- A closure that was called before.
 use Rattle.std.proofs.Common.{◌≡◌, ℕ, Option, subst}
-use Rattle.live_law.specs.Known.{Known}
+use Rattle.live_nodes.specs.Known.{Known}
 use Rattle.live_updates.specs.Closures.{Reaches}
 use Rattle.live_updates.proofs.Reached.{last_on}
 use Rattle.live_faces.specs.Returned.{ReturnsInserted}

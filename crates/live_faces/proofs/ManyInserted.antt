@@ -1,7 +1,7 @@
 -- Insertions, one after another.
 use Rattle.std.proofs.Common.{◌≡◌, ℕ, List, [], ◌∷◌, ◌++◌, Option, refl, subst}
-use Rattle.live_law.specs.Views.{ask, inserted}
-use Rattle.live_law.specs.Known.{Known}
+use Rattle.live_nodes.specs.Views.{ask, inserted}
+use Rattle.live_nodes.specs.Known.{Known}
 use Rattle.live_faces.specs.Returned.{ReturnsOld}
 use Rattle.live_faces.specs.Inserted.{HaveInserted}
 

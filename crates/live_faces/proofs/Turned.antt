@@ -2,7 +2,7 @@
 use Rattle.std.proofs.Common.{◌≡◌, ℕ, suc, ◌+◌, ◌-◌, ◌<◌, ◌≤◌, true, false, [], ◌∷◌, length, take, get_or, reverse, length-take-le, sym, ap, ◌∙◌, subst, arith}
 use Rattle.std.proofs.lemmas.List.{take_all, take_more, reverse-append, length-reverse}
 use Rattle.spec_map.specs.Map.{Pairs, Rises}
-use Rattle.live_law.specs.Known.{Known}
+use Rattle.live_nodes.specs.Known.{Known}
 use Rattle.live_scans.specs.Scans.{HasRead, HasPage, Waits}
 use Rattle.live_scans.specs.Descents.{HasPageDown}
 use Rattle.live_scans.proofs.Composed.{shrunk}

@@ -1,7 +1,7 @@
 -- MANY PAIRS ARE INSERTED one by one, while others write. Keys and values are written as numbers.
 use Rattle.std.specs.Prelude.{◌≡◌, ℕ, List, [], ◌∷◌, Option}
-use Rattle.live_law.specs.Views.{ask, inserted}
-use Rattle.live_law.specs.Known.{Known, MadeCall}
+use Rattle.live_nodes.specs.Views.{ask, inserted}
+use Rattle.live_nodes.specs.Known.{Known, MadeCall}
 
 module _ {K V : Type 0} (key_of : K → ℕ) (value_of : V → ℕ) where
   -- THESE PAIRS WERE INSERTED in their order, one call after the other, by a guard that knew k

@@ -1,7 +1,7 @@
 -- AN ITERATOR over the keys of a range, while others write. It reads pages, and gives their pairs one by one.
 use Rattle.std.specs.Prelude.{◌≡◌, ◌⊎◌, ℕ, suc, ◌+◌, ◌-◌, Bool, true, false, [], ◌∷◌, reverse, Option, Some, None}
 use Rattle.spec_map.specs.Map.{Pairs}
-use Rattle.live_law.specs.Known.{Known}
+use Rattle.live_nodes.specs.Known.{Known}
 use Rattle.live_scans.specs.Scans.{HasRead, HasBegun, Waits}
 
 -- whether it goes upwards, what its guard knows, the pairs that it has read and not given yet, and the least and the greatest key

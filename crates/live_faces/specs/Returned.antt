@@ -4,7 +4,7 @@ use Rattle.std.specs.Prelude.{◌≡◌, ℕ, Bool, List, map, Option, Result, O
 use Rattle.std.specs.Option.{option_map}
 use Rattle.spec_map.specs.Map.{Pairs}
 use Rattle.share_rule.specs.History.{Entry}
-use Rattle.live_law.specs.Known.{Known, MadeCall}
+use Rattle.live_nodes.specs.Known.{Known, MadeCall}
 use Rattle.live_updates.specs.Entries.{swapped}
 use Rattle.live_scans.specs.Scans.{HasNext}
 use Rattle.live_scans.specs.Floors.{HasBefore}

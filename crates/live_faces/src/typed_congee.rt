@@ -4,7 +4,7 @@
 ghost use Rattle.std.specs.Prelude.{◌≡◌, ◌≢◌, ◌-◌, ◌≤◌, ◌^◌, [], IfOk, IfErr, OnErr};
 ghost use Rattle.live_updates.specs.Refusals.{FoundNone, Refused};
 ghost use Rattle.std.specs.Option.{option_map};
-ghost use Rattle.live_law.specs.Views.{ask, got, inserted};
+ghost use Rattle.live_nodes.specs.Views.{ask, got, inserted};
 ghost use Rattle.live_reads.specs.Meetings.{SeenMore};
 ghost use Rattle.live_faces.specs.Returned.{ReturnsOld};
 

@@ -13,11 +13,11 @@ use Rattle.live_nodes.specs.Plays.{hold_of, Locks}
 use Rattle.live_nodes.specs.Calls.{MayLock, MayFree}
 use Rattle.live_nodes.specs.Rows.{AreOf, nth, draft_of, undrafted, without_draft}
 use Rattle.live_layout.specs.Encodes.{words_of, Encodes, empty_node, with_child}
-use Rattle.live_law.specs.Levels.{up, digit, Spot, spot, name_of, place_at}
-use Rattle.live_law.specs.Views.{View, view_of, Own, locked, detached, rest_of, Ask}
-use Rattle.live_law.specs.Tree.{IsMap, IsApart, IsReclaimed, LearnsReclaimed, again, leads_again, left_again}
-use Rattle.live_law.proofs.Locks.{node_reclaims}
-use Rattle.live_law.proofs.Joins.{IsEmptyNode, IsSplit}
+use Rattle.live_nodes.specs.Levels.{up, digit, Spot, spot, name_of, place_at}
+use Rattle.live_nodes.specs.Views.{View, view_of, Own, locked, detached, rest_of, Ask}
+use Rattle.live_nodes.specs.Tree.{IsMap, IsApart, IsReclaimed, LearnsReclaimed, again, leads_again, left_again}
+use Rattle.live_nodes.proofs.Locks.{node_reclaims}
+use Rattle.live_nodes.proofs.Joins.{IsEmptyNode, IsSplit}
 use Rattle.live_reads.specs.Paths.{Names, Sights, AreNamed, Keeps}
 use Rattle.live_growth.specs.Holds.{Alike, HoldsOne, HasReclaimed}
 use Rattle.live_growth.specs.Rooms.{HasGrown}

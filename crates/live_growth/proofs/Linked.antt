@@ -7,9 +7,9 @@ use Rattle.spec_map.specs.Map.{lookup}
 use Rattle.live_nodes.specs.Nodes.{Content}
 use Rattle.live_nodes.specs.Seats.{Place, SeatView, seat_view, IsIn}
 use Rattle.live_layout.specs.Encodes.{Encodes, IsWord, with_child}
-use Rattle.live_law.specs.Levels.{digit, Spot, name_of}
-use Rattle.live_law.specs.Views.{View, Ask}
-use Rattle.live_law.proofs.Joins.{Changes}
+use Rattle.live_nodes.specs.Levels.{digit, Spot, name_of}
+use Rattle.live_nodes.specs.Views.{View, Ask}
+use Rattle.live_nodes.proofs.Joins.{Changes}
 use Rattle.live_growth.specs.Rooms.{HasRoom}
 
 abbrev Seen : Type 0

@@ -15,11 +15,11 @@ use Rattle.live_layout.specs.Encodes.{words_of}
 use Rattle.live_layout.proofs.StandLaws.{few_forms}
 use Rattle.live_layout.specs.Head.{IsHead}
 use Rattle.live_layout.specs.Words as cells
-use Rattle.live_law.specs.Levels.{Shape, Spot, spot, place_at}
-use Rattle.live_law.specs.Views as views
-use Rattle.live_law.specs.Views.{View, Own}
-use Rattle.live_law.specs.Tree.{IsMap, LearnsLocked, IsHeld, IsOf}
-use Rattle.live_law.proofs.Locks.{node_locks}
+use Rattle.live_nodes.specs.Levels.{Shape, Spot, spot, place_at}
+use Rattle.live_nodes.specs.Views as views
+use Rattle.live_nodes.specs.Views.{View, Own}
+use Rattle.live_nodes.specs.Tree.{IsMap, LearnsLocked, IsHeld, IsOf}
+use Rattle.live_nodes.proofs.Locks.{node_locks}
 use Rattle.live_reads.specs.Paths.{Names, AreNamed, IsOpen}
 use Rattle.live_growth.specs.Holds.{Alike, HasLocked, HoldsOne}
 use Rattle.live_reads.specs.Sees.{Sees}

@@ -6,7 +6,7 @@ use Rattle.node_base.specs.Form.{limit, next_form}
 use Rattle.spec_node.specs.TableNode.{TableNode, Child, MayHave}
 use Rattle.spec_node.specs.declared.child.Child.TheVariants.{Node as Below}
 use Rattle.spec_map.specs.Map.{lookup}
-use Rattle.live_law.proofs.Joins.{Changes}
+use Rattle.live_nodes.proofs.Joins.{Changes}
 use Rattle.live_growth.proofs.Values.{none_below}
 use Rattle.spec_map.proofs.ByteMapLaws.{length-from_Rises}
 use Rattle.live_growth.specs.Holds.{HasLocked, HoldsOne}
@@ -20,9 +20,9 @@ use Rattle.live_nodes.specs.Plays.{hold_of}
 use Rattle.live_nodes.specs.Calls.{MayFree}
 use Rattle.live_nodes.specs.Rows.{AreOf, nth, draft_of, undrafted, MayHold, without_draft}
 use Rattle.live_layout.specs.Encodes.{words_of, HasChildren, counted, most, IsCounted, Encodes, IsBelow, IsWord, with_child}
-use Rattle.live_law.specs.Levels.{digit, Spot, name_of, place_at}
-use Rattle.live_law.specs.Views.{View, Ask}
-use Rattle.live_law.specs.Tree.{IsMap, IsApart}
+use Rattle.live_nodes.specs.Levels.{digit, Spot, name_of, place_at}
+use Rattle.live_nodes.specs.Views.{View, Ask}
+use Rattle.live_nodes.specs.Tree.{IsMap, IsApart}
 use Rattle.live_growth.proofs.Locks.{hold_head}
 
 abbrev Seen : Type 0

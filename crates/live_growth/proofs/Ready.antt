@@ -6,11 +6,11 @@ use Rattle.share_rule.proofs.Keeps.{entries-append}
 use Rattle.word_book.specs.Book.{Book}
 use Rattle.live_nodes.specs.Seats.{Place, place, no_room, SeatView, seat_view, IsIn}
 use Rattle.live_nodes.specs.Plays.{given, met}
-use Rattle.live_law.specs.Levels.{Spot, place_at}
-use Rattle.live_law.specs.Views.{View, view_of, Ask, ask, inserted}
-use Rattle.live_law.specs.Tree.{Answers}
-use Rattle.live_law.specs.Known.{Known, MadeCall}
-use Rattle.live_law.proofs.Histories.{its_own}
+use Rattle.live_nodes.specs.Levels.{Spot, place_at}
+use Rattle.live_nodes.specs.Views.{View, view_of, Ask, ask, inserted}
+use Rattle.live_nodes.specs.Tree.{Answers}
+use Rattle.live_nodes.specs.Known.{Known, MadeCall}
+use Rattle.live_nodes.proofs.Histories.{its_own}
 use Rattle.live_reads.specs.Paths.{Names, Sights, Leaves, Keeps}
 use Rattle.live_reads.specs.Positions.{KnowsLast}
 use Rattle.live_reads.specs.declared.last_leaf.LastLeaf.{LastLeaf}

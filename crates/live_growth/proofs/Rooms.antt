@@ -11,10 +11,10 @@ use Rattle.live_nodes.specs.Seats.{Place, place, Room, room_at, SeatView, IsIn}
 use Rattle.live_nodes.specs.Plays.{new_content, put, made, Puts, Makes}
 use Rattle.live_nodes.specs.Calls.{InRoom, MayMake}
 use Rattle.live_layout.specs.Encodes.{words_of}
-use Rattle.live_law.specs.Levels.{Spot, place_at}
-use Rattle.live_law.specs.Views.{View, with_met}
-use Rattle.live_law.specs.Tree.{IsMap, IsMade}
-use Rattle.live_law.proofs.Makes.{node_makes}
+use Rattle.live_nodes.specs.Levels.{Spot, place_at}
+use Rattle.live_nodes.specs.Views.{View, with_met}
+use Rattle.live_nodes.specs.Tree.{IsMap, IsMade}
+use Rattle.live_nodes.proofs.Makes.{node_makes}
 use Rattle.live_reads.specs.Paths.{Sights}
 use Rattle.live_growth.specs.Rooms.{HasRoom, HasMade, HasGrown}
 

@@ -7,10 +7,10 @@ use Rattle.live_nodes.specs.Plays as plays
 use Rattle.live_nodes.specs.Plays.{Locks}
 use Rattle.live_nodes.specs.Calls.{MayLock}
 use Rattle.live_nodes.specs.Rows.{AreOf}
-use Rattle.live_law.specs.Levels.{Spot}
-use Rattle.live_law.specs.Views.{View, view_of, Own, root_word, detached, rest_of, Ask}
-use Rattle.live_law.specs.Tree.{IsMap, LearnsRootWord, IsApart, again, leads_again, left_again}
-use Rattle.live_law.proofs.Locks.{root_word_locks}
+use Rattle.live_nodes.specs.Levels.{Spot}
+use Rattle.live_nodes.specs.Views.{View, view_of, Own, root_word, detached, rest_of, Ask}
+use Rattle.live_nodes.specs.Tree.{IsMap, LearnsRootWord, IsApart, again, leads_again, left_again}
+use Rattle.live_nodes.proofs.Locks.{root_word_locks}
 use Rattle.live_reads.specs.Paths.{KnowsRootWord, AreNamed}
 use Rattle.live_growth.specs.Holds.{Alike, HasReclaimed, HasRootWord, HoldsRootWord}
 use Rattle.live_growth.specs.Rooms.{HasGrown}

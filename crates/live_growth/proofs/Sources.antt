@@ -8,7 +8,7 @@ use Rattle.word_segments.specs.Segments.{AreWords}
 use Rattle.live_nodes.specs.Seats.{Place, Hold, hold, SeatView, IsIn, with_draft}
 use Rattle.live_nodes.specs.Plays.{hold_of}
 use Rattle.live_nodes.specs.Rows.{nth, draft_of, undrafted, MayHold}
-use Rattle.live_law.specs.Views.{View}
+use Rattle.live_nodes.specs.Views.{View}
 use Rattle.live_growth.specs.Holds.{number_at, IsBeside}
 use Rattle.live_growth.proofs.Again.{first_hold, rest_holds, no_holds, undrafted_head}
 

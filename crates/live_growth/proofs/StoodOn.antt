@@ -1,8 +1,8 @@
 -- Where an insertion has come to, as its seat grows the map, or holds a node.
 use Rattle.std.proofs.Common.{ℕ, ◌<◌, ◌≤◌, List, sym, subst, arith}
 use Rattle.live_nodes.specs.Seats.{Place, SeatView, IsIn}
-use Rattle.live_law.specs.Levels.{Spot}
-use Rattle.live_law.specs.Views.{View}
+use Rattle.live_nodes.specs.Levels.{Spot}
+use Rattle.live_nodes.specs.Views.{View}
 use Rattle.live_reads.specs.Paths.{Names}
 use Rattle.live_reads.specs.Positions.{KnowsPosition}
 use Rattle.live_growth.specs.Holds.{HasRest}

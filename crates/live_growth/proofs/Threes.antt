@@ -4,8 +4,8 @@ use Rattle.node_base.specs.declared.base_node.NodeType.{NodeType}
 use Rattle.word_book.specs.Book.{Book, Name}
 use Rattle.live_nodes.specs.Nodes.{Content}
 use Rattle.live_nodes.specs.Seats.{Place, SeatView, IsIn}
-use Rattle.live_law.specs.Levels.{Spot}
-use Rattle.live_law.specs.Views.{View, Own, locked, detached}
+use Rattle.live_nodes.specs.Levels.{Spot}
+use Rattle.live_nodes.specs.Views.{View, Own, locked, detached}
 use Rattle.live_growth.specs.Holds.{Alike, HasRest}
 use Rattle.live_growth.specs.Rooms.{HasGrown}
 use Rattle.live_reads.specs.declared.descend.Position.{Position}

@@ -9,9 +9,9 @@ use Rattle.live_nodes.specs.Plays.{hold_of}
 use Rattle.live_nodes.specs.Calls.{MayFree}
 use Rattle.live_nodes.specs.Rows.{AreOf, nth, draft_of, undrafted, MayHold, without_draft}
 use Rattle.live_layout.specs.Encodes.{words_of}
-use Rattle.live_law.specs.Levels.{Spot, place_at}
-use Rattle.live_law.specs.Views.{View, view_of, Own, locked, detached, rest_of, Ask}
-use Rattle.live_law.specs.Tree.{IsMap, IsApart, again, leads_again, left_again}
+use Rattle.live_nodes.specs.Levels.{Spot, place_at}
+use Rattle.live_nodes.specs.Views.{View, view_of, Own, locked, detached, rest_of, Ask}
+use Rattle.live_nodes.specs.Tree.{IsMap, IsApart, again, leads_again, left_again}
 use Rattle.live_reads.specs.Paths.{AreNamed}
 use Rattle.live_growth.specs.Holds.{HasReclaimed, IsBeside}
 use Rattle.live_growth.specs.Rooms.{HasGrown}

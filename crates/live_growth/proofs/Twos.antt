@@ -10,9 +10,9 @@ use Rattle.live_nodes.specs.Calls.{MayFree}
 use Rattle.live_nodes.specs.Rows.{AreOf, nth, draft_of, MayHold, without_draft}
 use Rattle.node_base.specs.declared.base_node.NodeType.{NodeType}
 use Rattle.live_layout.specs.Encodes.{words_of}
-use Rattle.live_law.specs.Levels.{Spot, place_at}
-use Rattle.live_law.specs.Views.{View}
-use Rattle.live_law.specs.Tree.{IsMap}
+use Rattle.live_nodes.specs.Levels.{Spot, place_at}
+use Rattle.live_nodes.specs.Views.{View}
+use Rattle.live_nodes.specs.Tree.{IsMap}
 use Rattle.live_reads.specs.Paths.{AreNamed}
 use Rattle.live_growth.specs.Holds.{Alike, HasLocked}
 use Rattle.live_growth.proofs.Locks.{hold_head}

@@ -3,7 +3,7 @@ use Rattle.std.proofs.Common.{◌≡◌, ℕ, Option, Some, None, IsSome, rules,
 use Rattle.spec_node.specs.TableNode.{Child}
 use Rattle.spec_node.specs.declared.child.Child.TheVariants.{Payload, Node as Below}
 use Rattle.live_layout.specs.Encodes.{IsBelow, payload_of}
-use Rattle.live_law.specs.Tree.{HasValue}
+use Rattle.live_nodes.specs.Tree.{HasValue}
 
 none_some : {A : Type 0} {x : A} → None ≡ Some x → ⊥
 none_some e = cc

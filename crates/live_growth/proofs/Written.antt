@@ -9,10 +9,10 @@ use Rattle.live_nodes.specs.Nodes.{Content}
 use Rattle.live_layout.specs.Head.{IsHead}
 use Rattle.live_layout.specs.Words as cells
 use Rattle.live_layout.specs.Encodes.{Encodes, with_child}
-use Rattle.live_law.specs.Levels.{digit}
-use Rattle.live_law.specs.Views.{View, Ask, content_of, inserted}
-use Rattle.live_law.specs.Tree.{HasValue, Inserted, Answers}
-use Rattle.live_law.proofs.Makes.{one-form}
+use Rattle.live_nodes.specs.Levels.{digit}
+use Rattle.live_nodes.specs.Views.{View, Ask, content_of, inserted}
+use Rattle.live_nodes.specs.Tree.{HasValue, Inserted, Answers}
+use Rattle.live_nodes.proofs.Makes.{one-form}
 use Rattle.live_growth.specs.Holds.{IsWritten}
 use Rattle.live_growth.proofs.Values.{value_once}
 

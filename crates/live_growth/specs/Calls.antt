@@ -2,9 +2,9 @@
 use Rattle.std.specs.Prelude.{◌≡◌, ℕ, [], Option, Result, Ok, Err}
 use Rattle.word_book.specs.Book.{Book}
 use Rattle.live_nodes.specs.Seats.{SeatView}
-use Rattle.live_law.specs.Views.{View, Ask, inserted}
-use Rattle.live_law.specs.Known.{Known}
-use Rattle.live_law.specs.Tree.{Answers}
+use Rattle.live_nodes.specs.Views.{View, Ask, inserted}
+use Rattle.live_nodes.specs.Known.{Known}
+use Rattle.live_nodes.specs.Tree.{Answers}
 use Rattle.live_reads.specs.Paths.{KnowsRootWord}
 use Rattle.live_reads.specs.Positions.{KnowsLast}
 use Rattle.live_growth.specs.Rooms.{HasRoom}

@@ -9,9 +9,9 @@ use Rattle.live_nodes.specs.Nodes.{Content}
 use Rattle.live_nodes.specs.Seats.{place, Hold, hold, SeatView, IsIn, Each, Agree}
 use Rattle.live_nodes.specs.Rows.{AreOf}
 use Rattle.live_layout.specs.Encodes.{words_of, Encodes, IsBelow, IsWord, with_child}
-use Rattle.live_law.specs.Levels.{Spot, name_of, place_at}
-use Rattle.live_law.specs.Views.{View, view_of, locked, detached, root_word, Ask, inserted}
-use Rattle.live_law.specs.Tree.{HasValue, IsApart, Answers}
+use Rattle.live_nodes.specs.Levels.{Spot, name_of, place_at}
+use Rattle.live_nodes.specs.Views.{View, view_of, locked, detached, root_word, Ask, inserted}
+use Rattle.live_nodes.specs.Tree.{HasValue, IsApart, Answers}
 use Rattle.live_reads.specs.Paths.{Names, IsOpen}
 
 -- The seat knows the same, but for what it has to itself.

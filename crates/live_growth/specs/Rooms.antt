@@ -2,8 +2,8 @@
 use Rattle.std.specs.Prelude.{◌≡◌, ℕ, ◌≤◌, [], ◌∷◌, replicate}
 use Rattle.node_base.specs.declared.base_node.NodeType.{NodeType}
 use Rattle.live_nodes.specs.Seats.{Place, room_at, SeatView, IsIn}
-use Rattle.live_law.specs.Levels.{Spot, name_of, place_at}
-use Rattle.live_law.specs.Views.{View, with_met}
+use Rattle.live_nodes.specs.Levels.{Spot, name_of, place_at}
+use Rattle.live_nodes.specs.Views.{View, with_met}
 
 -- Its room begins with that word, and has at least so many, which are 0.
 pub record HasRoom (v : SeatView View) (start left : ℕ) : Type 0 where

@@ -4,7 +4,7 @@ use Rattle.node_base.specs.declared.base_node.NodeType.{NodeType}
 use Rattle.word_book.specs.Book.{Book, Name}
 use Rattle.live_nodes.specs.Nodes.{Content}
 use Rattle.live_nodes.specs.Seats.{SeatView}
-use Rattle.live_law.specs.Views.{View}
+use Rattle.live_nodes.specs.Views.{View}
 use Rattle.live_reads.specs.Paths.{AreNamed}
 use Rattle.live_growth.specs.Holds.{HasReclaimed}
 use Rattle.live_growth.specs.Two.{LeadsTwo}

@@ -6,8 +6,8 @@ use Rattle.live_nodes.specs.Nodes.{Content}
 use Rattle.live_nodes.specs.Seats.{hold, SeatView, IsIn}
 use Rattle.live_nodes.specs.Rows.{AreOf}
 use Rattle.live_layout.specs.Encodes.{words_of, Encodes}
-use Rattle.live_law.specs.Levels.{digit, Spot, name_of, Covers, place_at}
-use Rattle.live_law.specs.Views.{View, locked}
+use Rattle.live_nodes.specs.Levels.{digit, Spot, name_of, Covers, place_at}
+use Rattle.live_nodes.specs.Views.{View, locked}
 use Rattle.live_growth.specs.Holds.{HasWordOf}
 use Rattle.live_reads.specs.declared.descend.Position.{Position}
 

@@ -2,7 +2,7 @@
 ghost use Rattle.std.specs.Prelude.{◌≡◌, ◌≢◌, ◌≤◌};
 ghost use Rattle.node_base.specs.declared.base_node.NodeType.TheVariants.{N4};
 ghost use Rattle.live_nodes.specs.Seats.{SeatView};
-ghost use Rattle.live_law.specs.Views.{View};
+ghost use Rattle.live_nodes.specs.Views.{View};
 ghost use Rattle.live_reads.specs.Paths.{Sights};
 ghost use Rattle.live_growth.specs.FreeNodes.{IsSpare, slot_of, with_slot, HasFreeNodes, Lacks, KeepsOthers};
 

@@ -4,13 +4,13 @@ ghost use Rattle.word_book.specs.Book.{writes, none_joined};
 ghost use Rattle.live_nodes.specs.Nodes.{Content};
 ghost use Rattle.live_nodes.specs.Plays.{Frees};
 ghost use Rattle.live_nodes.specs.Calls.{MayFree};
-ghost use Rattle.live_law.specs.Levels.{Spot};
-ghost use Rattle.live_law.specs.Tree.{IsMap, LinksAgain};
+ghost use Rattle.live_nodes.specs.Levels.{Spot};
+ghost use Rattle.live_nodes.specs.Tree.{IsMap, LinksAgain};
 ghost use Rattle.live_reads.specs.Paths.{Names, Sights, AreNamed, IsOpen};
 ghost use Rattle.live_growth.specs.Holds.{Alike, HasLocked, HasLockedOpen, HasReclaimed, HoldsOne, HasRest};
 
-use live_law::law::{Again, Asks, Fills, Locked, MapLaw, MapView, Reclaimed, Same};
 use live_layout::words::ReadWords;
+use live_nodes::map_law::{Again, Asks, Fills, Locked, MapLaw, MapView, Reclaimed, Same};
 use live_nodes::node;
 use live_nodes::rows::SharedWords;
 use live_reads::path::{Cell, Opened, Seat};
@@ -21,9 +21,10 @@ use live_reads::prefix_match::{PrefixMatch, compare};
 pub fn lock_node(words: &[Cell], name: u64, height: usize, key: u64, seat: &mut Seat) -> Option<u64>
     requires words { AreNamed seat.old.book name words.now }
     requires named { Names seat.old.view name key height }
-    ensures told { (seat.new.book ≡ seat.old.book) × (seat.new.id ≡ seat.old.id)
-        × IfSome result (λ free. HasLocked seat.old.view seat.new.view name key height free)
-        × IfNone result (Alike seat.old.view seat.new.view
+    ensures book { seat.new.book ≡ seat.old.book }
+    ensures id { seat.new.id ≡ seat.old.id }
+    ensures locked { IfSome result (λ free. HasLocked seat.old.view seat.new.view name key height free) }
+    ensures none { IfNone result (Alike seat.old.view seat.new.view
         × (seat.new.view.client ≡ seat.old.view.client)
         × (seat.new.view.holds ≡ seat.old.view.holds)) }
 {
@@ -57,10 +58,11 @@ pub fn lock_open(
     seat: &mut Seat,
 ) -> Option<u64>
     requires open { IsOpen seat.old.view seat.old.book here.words.now here.taken name key height }
-    ensures told { (seat.new.book ≡ seat.old.book) × (seat.new.id ≡ seat.old.id)
-        × (let at = here.entry in IfSome result (HasLockedOpen seat.old.view seat.new.view
-        seat.old.book at.words.now at.taken name key height))
-        × IfNone result (Alike seat.old.view seat.new.view
+    ensures book { seat.new.book ≡ seat.old.book }
+    ensures id { seat.new.id ≡ seat.old.id }
+    ensures locked { let at = here.entry in IfSome result (HasLockedOpen seat.old.view seat.new.view
+        seat.old.book at.words.now at.taken name key height) }
+    ensures none { IfNone result (Alike seat.old.view seat.new.view
         × (seat.new.view.client ≡ seat.old.view.client)
         × (seat.new.view.holds ≡ seat.old.view.holds)) }
 {
@@ -79,9 +81,10 @@ pub fn lock_open(
 pub fn reclaim(words: &[Cell], name: u64, seat: &mut Seat) -> Option<u64>
     requires words { AreNamed seat.old.book name words.now }
     requires sighted { Sights seat.old.view name }
-    ensures told { (seat.new.book ≡ seat.old.book) × (seat.new.id ≡ seat.old.id)
-        × IfSome result (λ free. HasReclaimed seat.old.view seat.new.view name free)
-        × IfNone result (Alike seat.old.view seat.new.view
+    ensures book { seat.new.book ≡ seat.old.book }
+    ensures id { seat.new.id ≡ seat.old.id }
+    ensures reclaimed { IfSome result (λ free. HasReclaimed seat.old.view seat.new.view name free) }
+    ensures none { IfNone result (Alike seat.old.view seat.new.view
         × (seat.new.view.client ≡ seat.old.view.client)
         × (seat.new.view.holds ≡ seat.old.view.holds)) }
 {
@@ -101,9 +104,10 @@ pub fn unlock_same(words: &[Cell], free: u64, seat: &mut Seat)
     requires word { (free % 4 ≡ 0) × (free < 2 ^ 62) }
     requires holds { (a : Spot) × (c : Content)
         × HoldsOne seat.old.view seat.old.book words.now free a c c }
-    ensures told { (seat.new.book ≡ seat.old.book) × (seat.new.id ≡ seat.old.id)
-        × HasRest seat.old.view seat.new.view
-        × (seat.new.view.client.seen ≡ seat.old.view.client.seen) }
+    ensures book { seat.new.book ≡ seat.old.book }
+    ensures id { seat.new.id ≡ seat.old.id }
+    ensures rest { HasRest seat.old.view seat.new.view }
+    ensures seen { seat.new.view.client.seen ≡ seat.old.view.client.seen }
 {
     node::unlock::<MapView, MapLaw, Same>(&words[0], free, seat);
 }
@@ -115,7 +119,7 @@ pub fn unlock_again<A: Asks, C: Fills>(word: &Cell, free: u64, seat: &mut Seat)
     requires frees { MayFree seat.old.view word.now.key IsMap seat.old.id
         (LinksAgain A.ask C.content) (free + 2) (free + 4) }
     ensures seat { (seat.new.book ≡ seat.old.book) × (seat.new.id ≡ seat.old.id) }
-    ensures told { Frees (LinksAgain A.ask C.content) (writes word.now.key (free + 4))
+    ensures freed { Frees (LinksAgain A.ask C.content) (writes word.now.key (free + 4))
         seat.old.view (free + 4) none_joined seat.new.view }
 {
     node::unlock::<MapView, MapLaw, Again<A, C>>(word, free, seat);

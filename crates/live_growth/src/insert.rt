@@ -1,6 +1,6 @@
 //! An insertion.
 ghost use Rattle.std.specs.Prelude.{◌≡◌, ◌<◌, ◌≤◌, Some, IfSome, IfOk};
-ghost use Rattle.live_law.specs.Views.{ask};
+ghost use Rattle.live_nodes.specs.Views.{ask};
 ghost use Rattle.live_reads.specs.Paths.{Names, IsOpen, Keeps};
 ghost use Rattle.live_reads.specs.Positions.{KnowsPosition, HasMismatch};
 ghost use Rattle.live_growth.specs.Rooms.{HasGrown};
@@ -31,9 +31,10 @@ pub fn reserve(
 ) -> Result<bool, AllocError>
     requires book { seat.old.book ≡ nodes.now }
     requires ready { IsReady seat.old.view room.old }
-    ensures told { (seat.new.book ≡ seat.old.book) × (seat.new.id ≡ seat.old.id)
-        × IsReady seat.new.view room.new
-        × (seat.new.view.client.seen ≡ seat.old.view.client.seen) }
+    ensures book { seat.new.book ≡ seat.old.book }
+    ensures id { seat.new.id ≡ seat.old.id }
+    ensures ready { IsReady seat.new.view room.new }
+    ensures seen { seat.new.view.client.seen ≡ seat.old.view.client.seen }
 {
     if room.left >= 263 || room.spare.is_full() {
         return Ok(true);
@@ -53,8 +54,10 @@ fn replace(nodes: &Nodes, position: Position, key: u64, room: &mut Room, seat: &
     requires ready { IsReady seat.old.view room.old }
     requires position { KnowsPosition seat.old.view key position }
     requires lower { position.height < 8 }
-    ensures told { (seat.new.book ≡ seat.old.book) × (seat.new.id ≡ seat.old.id)
-        × IsReady seat.new.view room.new × HasGrown seat.old.view seat.new.view }
+    ensures book { seat.new.book ≡ seat.old.book }
+    ensures id { seat.new.id ≡ seat.old.id }
+    ensures ready { IsReady seat.new.view room.new }
+    ensures grown { HasGrown seat.old.view seat.new.view }
 {
     let form = form_below(position.name);
     let spare = spare_or_made(nodes, room.spare_above(form), next_of(form), room, seat);
@@ -76,9 +79,10 @@ pub fn enlarge(
     requires book { seat.old.book ≡ nodes.now }
     requires ready { IsReady seat.old.view room.old }
     requires position { KnowsPosition seat.old.view key position }
-    ensures told { (seat.new.book ≡ seat.old.book) × (seat.new.id ≡ seat.old.id)
-        × IsReady seat.new.view room.new
-        × (seat.new.view.client.seen ≡ seat.old.view.client.seen) }
+    ensures book { seat.new.book ≡ seat.old.book }
+    ensures id { seat.new.id ≡ seat.old.id }
+    ensures ready { IsReady seat.new.view room.new }
+    ensures seen { seat.new.view.client.seen ≡ seat.old.view.client.seen }
 {
     if position.height >= 8 {
         return false;
@@ -107,8 +111,10 @@ fn lead_on(
     requires ready { IsReady seat.old.view room.old }
     requires position { KnowsPosition seat.old.view key position }
     requires inner { 2 ≤ position.height }
-    ensures told { (seat.new.book ≡ seat.old.book) × (seat.new.id ≡ seat.old.id)
-        × IsReady seat.new.view room.new × HasGrown seat.old.view seat.new.view }
+    ensures book { seat.new.book ≡ seat.old.book }
+    ensures id { seat.new.id ≡ seat.old.id }
+    ensures ready { IsReady seat.new.view room.new }
+    ensures grown { HasGrown seat.old.view seat.new.view }
     ensures leaf { IfOk result (λ leaf. Names seat.new.view leaf key 1) }
 {
     let spare = spare_or_made(nodes, room.spare_for_new(), NEW, room, seat);
@@ -140,9 +146,10 @@ pub fn extend(
     requires ready { IsReady seat.old.view room.old }
     requires position { KnowsPosition seat.old.view key position }
     requires inner { 2 ≤ position.height }
-    ensures told { (seat.new.book ≡ seat.old.book) × (seat.new.id ≡ seat.old.id)
-        × IsReady seat.new.view room.new
-        × (seat.new.view.client.seen ≡ seat.old.view.client.seen) }
+    ensures book { seat.new.book ≡ seat.old.book }
+    ensures id { seat.new.id ≡ seat.old.id }
+    ensures ready { IsReady seat.new.view room.new }
+    ensures seen { seat.new.view.client.seen ≡ seat.old.view.client.seen }
     ensures leaf { IfOk result (λ leaf. Names seat.new.view leaf key 1
         × KnowsPosition seat.new.view key position) }
 {
@@ -168,9 +175,10 @@ pub fn reach<'a>(
     requires above { KnowsPosition seat.old.view key above }
     requires inner { 2 ≤ above.height }
     requires named { Names seat.old.view name key 1 }
-    ensures told { (seat.new.book ≡ seat.old.book) × (seat.new.id ≡ seat.old.id)
-        × Keeps seat.old.view seat.new.view
-        × (seat.new.view.client.seen ≡ seat.old.view.client.seen) }
+    ensures book { seat.new.book ≡ seat.old.book }
+    ensures id { seat.new.id ≡ seat.old.id }
+    ensures keeps { Keeps seat.old.view seat.new.view }
+    ensures seen { seat.new.view.client.seen ≡ seat.old.view.client.seen }
     ensures leaf { IfSome result (λ end. let here = end.here
         in KnowsPosition seat.new.view key end.position × (end.position.height ≡ 1)
         × IsOpen seat.new.view seat.new.book here.words.now here.taken end.position.name key 1) }
@@ -215,9 +223,10 @@ fn insert_at(
     requires leaf { let here = end.here
         in IsOpen seat.old.view seat.old.book here.words.now here.taken end.position.name key 1 }
     requires low { end.position.height ≡ 1 }
-    ensures told { (seat.new.book ≡ seat.old.book) × (seat.new.id ≡ seat.old.id)
-        × IsReady seat.new.view room.new
-        × Inserts (ask seat.old.id key value 1) result seat.old.view seat.new.view }
+    ensures book { seat.new.book ≡ seat.old.book }
+    ensures id { seat.new.id ≡ seat.old.id }
+    ensures ready { IsReady seat.new.view room.new }
+    ensures inserts { Inserts (ask seat.old.id key value 1) result seat.old.view seat.new.view }
 {
     let End { position, here, .. } = end;
     room.last = LastLeaf { key, position };
@@ -243,9 +252,10 @@ pub fn part(
     requires ready { IsReady seat.old.view room.old }
     requires position { KnowsPosition seat.old.view key position }
     requires mismatches { HasMismatch seat.old.view key position.height (Some mismatch) }
-    ensures told { (seat.new.book ≡ seat.old.book) × (seat.new.id ≡ seat.old.id)
-        × IsReady seat.new.view room.new
-        × (seat.new.view.client.seen ≡ seat.old.view.client.seen) }
+    ensures book { seat.new.book ≡ seat.old.book }
+    ensures id { seat.new.id ≡ seat.old.id }
+    ensures ready { IsReady seat.new.view room.new }
+    ensures seen { seat.new.view.client.seen ≡ seat.old.view.client.seen }
     ensures parted { IfOk result (λ below. KnowsPosition seat.new.view key below
         × (2 ≤ below.height)) }
 {
@@ -256,23 +266,13 @@ pub fn part(
     if spare == 0 {
         return Err(Refusal::Busy);
     }
-    let Position { name, height, .. } = position;
-    let parted = split::<Brand>(
-        nodes,
-        name,
-        height,
-        mismatch,
-        key,
-        spare,
-        &mut room.spare,
-        seat,
-    );
+    let parted = split::<Brand>(nodes, position, mismatch, key, spare, &mut room.spare, seat);
     if !parted {
         return Err(Refusal::Busy);
     }
     Ok(Position {
-        above: name,
-        level: height,
+        above: position.name,
+        level: position.height,
         name: spare,
         height: mismatch.at,
     })
@@ -294,9 +294,10 @@ fn insert_new(
     requires above { KnowsPosition seat.old.view key above }
     requires inner { 2 ≤ above.height }
     requires named { Names seat.old.view name key 1 }
-    ensures told { (seat.new.book ≡ seat.old.book) × (seat.new.id ≡ seat.old.id)
-        × IsReady seat.new.view room.new
-        × Inserts (ask seat.old.id key value 1) result seat.old.view seat.new.view }
+    ensures book { seat.new.book ≡ seat.old.book }
+    ensures id { seat.new.id ≡ seat.old.id }
+    ensures ready { IsReady seat.new.view room.new }
+    ensures inserts { Inserts (ask seat.old.id key value 1) result seat.old.view seat.new.view }
 {
     let Some(leaf) = reach(nodes, above, name, key, seat) else {
         return Err(Refusal::Busy);
@@ -319,9 +320,10 @@ fn insert_below(
     requires ready { IsReady seat.old.view room.old }
     requires above { KnowsPosition seat.old.view key above }
     requires inner { 2 ≤ above.height }
-    ensures told { (seat.new.book ≡ seat.old.book) × (seat.new.id ≡ seat.old.id)
-        × IsReady seat.new.view room.new
-        × Inserts (ask seat.old.id key value 1) result seat.old.view seat.new.view }
+    ensures book { seat.new.book ≡ seat.old.book }
+    ensures id { seat.new.id ≡ seat.old.id }
+    ensures ready { IsReady seat.new.view room.new }
+    ensures inserts { Inserts (ask seat.old.id key value 1) result seat.old.view seat.new.view }
 {
     let name = extend(nodes, above, key, room, seat)?;
     insert_new(nodes, above, name, key, value, room, seat)
@@ -338,9 +340,10 @@ fn insert_once(
 ) -> Result<Option<u64>, Refusal>
     requires book { seat.old.book ≡ nodes.now }
     requires ready { IsReady seat.old.view room.old }
-    ensures told { (seat.new.book ≡ seat.old.book) × (seat.new.id ≡ seat.old.id)
-        × IsReady seat.new.view room.new
-        × Inserts (ask seat.old.id key value 1) result seat.old.view seat.new.view }
+    ensures book { seat.new.book ≡ seat.old.book }
+    ensures id { seat.new.id ≡ seat.old.id }
+    ensures ready { IsReady seat.new.view room.new }
+    ensures inserts { Inserts (ask seat.old.id key value 1) result seat.old.view seat.new.view }
 {
     let Some(end) = descend_from(nodes, room.last, key, seat) else {
         return Err(Refusal::Busy);
@@ -364,9 +367,10 @@ fn insert_once(
 pub fn make_room(nodes: &Nodes, alloc: Global, room: &mut Room, seat: &mut Seat) -> bool
     requires book { seat.old.book ≡ nodes.now }
     requires ready { IsReady seat.old.view room.old }
-    ensures told { (seat.new.book ≡ seat.old.book) × (seat.new.id ≡ seat.old.id)
-        × IsReady seat.new.view room.new
-        × (seat.new.view.client.seen ≡ seat.old.view.client.seen) }
+    ensures book { seat.new.book ≡ seat.old.book }
+    ensures id { seat.new.id ≡ seat.old.id }
+    ensures ready { IsReady seat.new.view room.new }
+    ensures seen { seat.new.view.client.seen ≡ seat.old.view.client.seen }
 {
     let is_last = reserve(nodes, alloc, room, seat).is_err();
     let was_last = room.is_last;
@@ -387,9 +391,10 @@ pub(crate) fn try_insert<R: Refills>(
     requires serves { R.serves from.now nodes.now }
     requires book { seat.old.book ≡ nodes.now }
     requires ready { IsReady seat.old.view room.old }
-    ensures told { (seat.new.book ≡ seat.old.book) × (seat.new.id ≡ seat.old.id)
-        × IsReady seat.new.view room.new
-        × Inserts (ask seat.old.id key value 1) result seat.old.view seat.new.view }
+    ensures book { seat.new.book ≡ seat.old.book }
+    ensures id { seat.new.id ≡ seat.old.id }
+    ensures ready { IsReady seat.new.view room.new }
+    ensures inserts { Inserts (ask seat.old.id key value 1) result seat.old.view seat.new.view }
 {
     let tried = insert_once(nodes, key, value, room, seat);
     if tried == Err(Refusal::OutOfMemory) && from.refill(nodes, room, seat) {

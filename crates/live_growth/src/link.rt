@@ -5,7 +5,7 @@ ghost use Rattle.spec_map.specs.Map.{lookup};
 ghost use Rattle.live_layout.specs.Words.{Looks};
 ghost use Rattle.live_layout.specs.Encodes.{words_of, Encodes, HasRoom as HasSpace};
 ghost use Rattle.live_nodes.specs.Seats.{SeatView};
-ghost use Rattle.live_law.specs.Views.{View};
+ghost use Rattle.live_nodes.specs.Views.{View};
 ghost use Rattle.live_reads.specs.Paths.{Names, Sights};
 ghost use Rattle.live_growth.specs.FreeNodes.{HasFreeNodes};
 ghost use Rattle.live_growth.specs.Rooms.{HasGrown};
@@ -13,12 +13,12 @@ ghost use Rattle.live_growth.specs.Rooms.{HasGrown};
 use crate::free_nodes::{Forms, FreeNodes};
 use crate::held::{lock_node, reclaim, unlock_again, unlock_same};
 use crate::write::Hindrance;
-use live_law::law::{Asks, MapLaw, MapView, Same};
 use live_layout::change::{is_full, put};
 use live_layout::fill::lay;
 use live_layout::form::{form_below, next_of, word_below, words_in};
 use live_layout::search::find;
 use live_layout::words::{AsReadWords, WriteWords};
+use live_nodes::map_law::{Asks, MapLaw, MapView, Same};
 use live_nodes::node;
 use live_nodes::rows::LockedWords;
 use live_reads::last_leaf::LastLeaf;
@@ -125,9 +125,10 @@ pub fn link<A: Asks>(
     requires height { (2 ≤ height) × (height ≤ 8) }
     requires rests { (seat.old.view.client.own ≡ []) × (seat.old.view.holds ≡ []) }
     requires spare { Sights seat.old.view spare }
-    ensures told { (seat.new.book ≡ seat.old.book) × (seat.new.id ≡ seat.old.id)
-        × HasGrown seat.old.view seat.new.view
-        × (seat.new.view.room ≡ seat.old.view.room) }
+    ensures book { seat.new.book ≡ seat.old.book }
+    ensures id { seat.new.id ≡ seat.old.id }
+    ensures grown { HasGrown seat.old.view seat.new.view }
+    ensures room { seat.new.view.room ≡ seat.old.view.room }
     ensures free_nodes { (v : SeatView View) → HasFreeNodes v free_nodes.old
         → HasFreeNodes v free_nodes.new }
     ensures linked { IfOk result (λ _. Names seat.new.view spare key 1) }

@@ -1,8 +1,8 @@
 //! The map, and its callers.
 ghost use Rattle.std.specs.Prelude.{◌≡◌, ◌≢◌, ℕ, ◌-◌, ◌*◌, ◌≤◌, ◌^◌, [], IfOk, OnErr};
 ghost use Rattle.word_segments.specs.Segments.{before};
-ghost use Rattle.live_law.specs.Views.{ask, got, inserted};
-ghost use Rattle.live_law.specs.Known.{MadeCall};
+ghost use Rattle.live_nodes.specs.Views.{ask, got, inserted};
+ghost use Rattle.live_nodes.specs.Known.{MadeCall};
 ghost use Rattle.live_reads.specs.Meetings.{SeenMore};
 
 use crate::free_nodes::{Forms, FreeNodes};
@@ -61,7 +61,7 @@ pub struct Guard {
 }
 
 impl Model for Guard {
-    ghost use Rattle.live_law.specs.Known.{Known};
+    ghost use Rattle.live_nodes.specs.Known.{Known};
     ghost use Rattle.live_growth.specs.Calls.{known_of, IsReady};
 
     ghost Value = { Known };

@@ -7,8 +7,8 @@ ghost use Rattle.live_growth.specs.Rooms.{HasRoom, HasMade, HasGrown};
 ghost use Rattle.live_growth.specs.Calls.{IsReady};
 
 use crate::link::Room;
-use live_law::law::{HasForm, MapLaw, MapView, New};
 use live_layout::form::{word_below, words_in};
+use live_nodes::map_law::{HasForm, MapLaw, MapView, New};
 use live_nodes::room;
 use live_reads::path::{Cell, Nodes, Seat};
 use node_base::base_node::NodeType;

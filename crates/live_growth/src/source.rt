@@ -2,8 +2,8 @@
 ghost use Rattle.live_nodes.specs.Rows.{draft_of, nth, MayHold, without_draft};
 ghost use Rattle.live_growth.specs.Holds.{IsBeside};
 
-use live_law::law::{MapLaw, MapView};
 use live_layout::words::WriteWords;
+use live_nodes::map_law::{MapLaw, MapView};
 use live_nodes::rows::LockedWords;
 use live_reads::path::{Cell, Seat};
 

@@ -7,8 +7,8 @@ ghost use Rattle.live_growth.specs.Two.{HoldsTwo, LeadsTwo};
 
 use crate::grow_node::leads_to;
 use crate::held::{lock_node, unlock_same};
-use live_law::law::{MapLaw, MapView, Same};
 use live_layout::form::form_below;
+use live_nodes::map_law::{MapLaw, MapView, Same};
 use live_nodes::node;
 use live_nodes::rows::LockedWords;
 use live_reads::descend::Position;
@@ -34,12 +34,13 @@ pub fn lock_two(
     requires position { KnowsPosition seat.old.view key position }
     requires below { position.height < 8 }
     requires rests { (seat.old.view.client.own ≡ []) × (seat.old.view.holds ≡ []) }
-    ensures told { (seat.new.book ≡ seat.old.book) × (seat.new.id ≡ seat.old.id)
-        × (seat.new.view.client.seen ≡ seat.old.view.client.seen)
-        × IfSome result (λ two. Alike seat.old.view seat.new.view
+    ensures book { seat.new.book ≡ seat.old.book }
+    ensures id { seat.new.id ≡ seat.old.id }
+    ensures seen { seat.new.view.client.seen ≡ seat.old.view.client.seen }
+    ensures two { IfSome result (λ two. Alike seat.old.view seat.new.view
         × LeadsTwo seat.new.view seat.new.book words.now words_above.now
-        two.free two.free_above position key)
-        × IfNone result (HasRest seat.old.view seat.new.view) }
+        two.free two.free_above position key) }
+    ensures none { IfNone result (HasRest seat.old.view seat.new.view) }
 {
     let free_above = lock_node(words_above, position.above, position.level, key, seat)?;
     let parent: LockedWords<'_, MapView, MapLaw, 0> = LockedWords { words: words_above };
@@ -65,9 +66,10 @@ pub fn lock_two(
 pub fn unlock_two(words: &[Cell], words_above: &[Cell], two: Two, seat: &mut Seat)
     requires holds { HoldsTwo seat.old.view seat.old.book words.now words_above.now
         two.free two.free_above }
-    ensures told { (seat.new.book ≡ seat.old.book) × (seat.new.id ≡ seat.old.id)
-        × HasRest seat.old.view seat.new.view
-        × (seat.new.view.client.seen ≡ seat.old.view.client.seen) }
+    ensures book { seat.new.book ≡ seat.old.book }
+    ensures id { seat.new.id ≡ seat.old.id }
+    ensures rest { HasRest seat.old.view seat.new.view }
+    ensures seen { seat.new.view.client.seen ≡ seat.old.view.client.seen }
 {
     node::unlock::<MapView, MapLaw, Same>(&words[0], two.free, seat);
     unlock_same(words_above, two.free_above, seat);

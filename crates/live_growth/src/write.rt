@@ -7,10 +7,10 @@ ghost use Rattle.live_reads.specs.Paths.{IsOpen};
 ghost use Rattle.live_growth.specs.Holds.{HasRest, IsWritten, IsDone};
 
 use crate::held::{lock_open, unlock_same};
-use live_law::law::{Asks, Insert, MapLaw, MapView};
 use live_layout::change::{change, is_full, put};
 use live_layout::form::form_below;
 use live_layout::words::WriteWords;
+use live_nodes::map_law::{Asks, Insert, MapLaw, MapView};
 use live_nodes::node;
 use live_nodes::rows::LockedWords;
 use live_reads::path::{Opened, Seat, byte_at};
@@ -61,10 +61,11 @@ pub fn insert_here<A: Asks>(
     requires asks { (A.ask.key ≡ key) × (A.ask.value ≡ value) × (A.ask.caller ≡ seat.old.id) }
     requires open { IsOpen seat.old.view seat.old.book here.words.now here.taken name key 1 }
     requires rests { (seat.old.view.client.own ≡ []) × (seat.old.view.holds ≡ []) }
-    ensures told { (seat.new.book ≡ seat.old.book) × (seat.new.id ≡ seat.old.id)
-        × HasRest seat.old.view seat.new.view
-        × IfOk result (λ old. IsDone A.ask old seat.old.view seat.new.view)
-        × OnErr result (seat.new.view.client.seen ≡ seat.old.view.client.seen) }
+    ensures book { seat.new.book ≡ seat.old.book }
+    ensures id { seat.new.id ≡ seat.old.id }
+    ensures rest { HasRest seat.old.view seat.new.view }
+    ensures done { IfOk result (λ old. IsDone A.ask old seat.old.view seat.new.view) }
+    ensures seen { OnErr result (seat.new.view.client.seen ≡ seat.old.view.client.seen) }
 {
     let words = here.words;
     let form = form_below(name);

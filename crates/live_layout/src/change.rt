@@ -18,7 +18,7 @@ pub fn is_full<S, D: WriteWords<S>>(draft: &D, form: NodeType, seat: &mut S) -> 
     requires long { length (D.words draft.now seat.old) ≡ words_of form }
     ensures seat { Looks D.may_write D.words draft.now seat.old seat.new }
     ensures left { result ≡ false → HasRoom form (D.words draft.now seat.old) }
-    ensures told { (n : TableNode ℕ) → Encodes (D.words draft.now seat.old) n → n.form ≡ form
+    ensures full { (n : TableNode ℕ) → Encodes (D.words draft.now seat.old) n → n.form ≡ form
         → (IsTrue result ↔ (most (limit form) ≤ length n.children)) }
 {
     match room_of(form) {

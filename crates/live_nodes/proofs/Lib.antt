@@ -6,3 +6,15 @@ pub mod Meets
 pub mod ReadLaws
 pub mod DraftLaws
 pub mod FillLaws
+pub mod Histories
+pub mod Plans
+pub mod Looks
+pub mod Changes
+pub mod Locks
+pub mod Writes
+pub mod Makes
+pub mod Links
+pub mod Replans
+pub mod Joins
+pub mod Begins
+pub mod Begun

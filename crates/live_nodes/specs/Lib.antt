@@ -5,3 +5,9 @@ pub mod Acts
 pub mod Plays
 pub mod Calls
 pub mod Rows
+pub mod Levels
+pub mod Views
+pub mod Known
+pub mod Tree
+pub mod Begun
+pub mod Roots

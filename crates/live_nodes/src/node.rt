@@ -14,7 +14,7 @@ pub fn take<V, L: NodeLaw<V>>(word: &Word<V, L>, seat: &mut Seat<V, L>) -> u64
     requires book { seat.old.book ≡ word.now.book }
     requires known { KnowsPlace seat.old.view word.now.key }
     ensures seat { (seat.new.book ≡ seat.old.book) × (seat.new.id ≡ seat.old.id) }
-    ensures told { Takes (reads word.now.key) seat.old.view result none_joined seat.new.view }
+    ensures taken { Takes (reads word.now.key) seat.old.view result none_joined seat.new.view }
 {
     word.load::<Take>(seat)
 }
@@ -24,7 +24,7 @@ pub fn read<V, L: NodeLaw<V>>(word: &Word<V, L>, seat: &mut Seat<V, L>) -> u64
     requires book { seat.old.book ≡ word.now.book }
     requires known { KnowsCell seat.old.view word.now.key }
     ensures seat { (seat.new.book ≡ seat.old.book) × (seat.new.id ≡ seat.old.id) }
-    ensures told { Sees (reads word.now.key) seat.old.view result none_joined seat.new.view }
+    ensures read { Sees (reads word.now.key) seat.old.view result none_joined seat.new.view }
 {
     word.load::<See>(seat)
 }
@@ -34,7 +34,7 @@ pub fn read<V, L: NodeLaw<V>>(word: &Word<V, L>, seat: &mut Seat<V, L>) -> u64
 pub fn look<V, L: NodeLaw<V>>(word: &Word<V, L>, seat: &mut Seat<V, L>) -> u64
     requires book { seat.old.book ≡ word.now.book }
     ensures seat { (seat.new.book ≡ seat.old.book) × (seat.new.id ≡ seat.old.id) }
-    ensures told { Looks (reads word.now.key) seat.old.view result none_joined seat.new.view }
+    ensures looked { Looks (reads word.now.key) seat.old.view result none_joined seat.new.view }
 {
     word.load::<Look>(seat)
 }
@@ -49,7 +49,7 @@ pub fn check<V, L: NodeLaw<V>, M: OnCheck<V>>(
     requires free { taken % 4 ≡ 0 }
     requires learns { MayCheck seat.old.view word.now.key L.holds seat.old.id M.told taken }
     ensures seat { (seat.new.book ≡ seat.old.book) × (seat.new.id ≡ seat.old.id) }
-    ensures told { (n : ℕ) × (IsTrue result ↔ (n ≡ taken))
+    ensures checked { (n : ℕ) × (IsTrue result ↔ (n ≡ taken))
         × Checks M.told (reads word.now.key) seat.old.view n none_joined seat.new.view }
 {
     word.load::<Check<M>>(seat) == taken
@@ -65,7 +65,7 @@ pub fn lock<V, L: NodeLaw<V>, M: OnLock<V>>(
     requires free { (free % 4 ≡ 0) × (free < 2 ^ 63) }
     requires locks { MayLock seat.old.view word.now.key L.holds seat.old.id M.told free (free + 2) }
     ensures seat { (seat.new.book ≡ seat.old.book) × (seat.new.id ≡ seat.old.id) }
-    ensures told { (n : ℕ) × (j : Joined) × (IsTrue result ↔ (n ≡ free))
+    ensures locked { (n : ℕ) × (j : Joined) × (IsTrue result ↔ (n ≡ free))
         × Locks M.told (compares word.now.key free (free + 2)) seat.old.view n j seat.new.view }
 {
     let (found, _) = word.compare_exchange::<Lock<M>>(free, free + 2, seat);
@@ -77,7 +77,7 @@ pub fn write<V, L: NodeLaw<V>>(word: &Word<V, L>, new: u64, seat: &mut Seat<V, L
     requires book { seat.old.book ≡ word.now.book }
     requires held { HoldsCell seat.old.view word.now.key }
     ensures seat { (seat.new.book ≡ seat.old.book) × (seat.new.id ≡ seat.old.id) }
-    ensures told { Writes (writes word.now.key new) seat.old.view new none_joined seat.new.view }
+    ensures written { Writes (writes word.now.key new) seat.old.view new none_joined seat.new.view }
 {
     word.store::<Write>(new, seat)
 }
@@ -88,7 +88,7 @@ pub fn unlock<V, L: NodeLaw<V>, M: OnLock<V>>(word: &Word<V, L>, free: u64, seat
     requires free { (free % 4 ≡ 0) × (free < 2 ^ 63) }
     requires frees { MayFree seat.old.view word.now.key L.holds seat.old.id M.told (free + 2) (free + 4) }
     ensures seat { (seat.new.book ≡ seat.old.book) × (seat.new.id ≡ seat.old.id) }
-    ensures told { Frees M.told (writes word.now.key (free + 4)) seat.old.view (free + 4) none_joined seat.new.view }
+    ensures freed { Frees M.told (writes word.now.key (free + 4)) seat.old.view (free + 4) none_joined seat.new.view }
 {
     word.store::<Free<M>>(free + 4, seat)
 }
@@ -99,7 +99,7 @@ pub fn retire<V, L: NodeLaw<V>, M: OnLock<V>>(word: &Word<V, L>, free: u64, seat
     requires free { (free % 4 ≡ 0) × (free < 2 ^ 63) }
     requires frees { MayFree seat.old.view word.now.key L.holds seat.old.id M.told (free + 2) (free + 3) }
     ensures seat { (seat.new.book ≡ seat.old.book) × (seat.new.id ≡ seat.old.id) }
-    ensures told { Frees M.told (writes word.now.key (free + 3)) seat.old.view (free + 3) none_joined seat.new.view }
+    ensures freed { Frees M.told (writes word.now.key (free + 3)) seat.old.view (free + 3) none_joined seat.new.view }
 {
     word.store::<Free<M>>(free + 3, seat)
 }
@@ -115,7 +115,7 @@ pub fn reclaim<V, L: NodeLaw<V>, M: OnLock<V>>(
     requires obsolete { (obsolete % 4 ≡ 3) × (obsolete < 2 ^ 63) }
     requires locks { MayLock seat.old.view word.now.key L.holds seat.old.id M.told obsolete (obsolete + 3) }
     ensures seat { (seat.new.book ≡ seat.old.book) × (seat.new.id ≡ seat.old.id) }
-    ensures told { (n : ℕ) × (j : Joined) × (IsTrue result ↔ (n ≡ obsolete))
+    ensures locked { (n : ℕ) × (j : Joined) × (IsTrue result ↔ (n ≡ obsolete))
         × Locks M.told (compares word.now.key obsolete (obsolete + 3)) seat.old.view n j seat.new.view }
 {
     let (found, _) = word.compare_exchange::<Lock<M>>(obsolete, obsolete + 3, seat);

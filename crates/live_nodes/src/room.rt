@@ -40,7 +40,7 @@ pub fn meet<V, L: NodeLaw<V>, M: OnMeet<V>>(a: &mut Seat<V, L>, b: &mut Seat<V, 
     ensures first { (a.new.book ≡ a.old.book) × (a.new.id ≡ a.old.id) }
     ensures second { (b.new.book ≡ b.old.book) × (b.new.id ≡ b.old.id) }
     ensures differ { a.old.id ≢ b.old.id }
-    ensures told { Meets M.told a.old.view b.old.view a.new.view b.new.view }
+    ensures met { Meets M.told a.old.view b.old.view a.new.view b.new.view }
 {
     a.meet::<Meet<M>>(b)
 }
@@ -52,7 +52,7 @@ pub fn grow<V, L: NodeLaw<V>>(count: &Word<V, L>, old: u64, seat: &mut Seat<V, L
     requires count { (count.now.key ≡ 0) × (old < 2 ^ 63) }
     ensures seat { (seat.new.book ≡ seat.old.book) × (seat.new.id ≡ seat.old.id) }
     ensures pens { result.1.book ≡ seat.old.book }
-    ensures told { (n : ℕ) × (IsTrue result.0 ↔ (n ≡ old)) × (let more = joined result.1.next result.1.left
+    ensures grown { (n : ℕ) × (IsTrue result.0 ↔ (n ≡ old)) × (let more = joined result.1.next result.1.left
         in Grows L.root (compares 0 old (old + 1)) seat.old.view n more seat.new.view) }
 {
     let (found, pens) = count.compare_exchange::<Grow>(old, old + 1, seat);
@@ -64,7 +64,7 @@ pub fn put<V, L: NodeLaw<V>>(word: &Word<V, L>, new: u64, seat: &mut Seat<V, L>)
     requires book { seat.old.book ≡ word.now.book }
     requires room { InRoom seat.old.view word.now.key }
     ensures seat { (seat.new.book ≡ seat.old.book) × (seat.new.id ≡ seat.old.id) }
-    ensures told { Puts (writes word.now.key new) seat.old.view new none_joined seat.new.view }
+    ensures put { Puts (writes word.now.key new) seat.old.view new none_joined seat.new.view }
 {
     word.store::<Put>(new, seat)
 }
@@ -74,7 +74,7 @@ pub fn make<V, L: NodeLaw<V>, M: OnMake<V>>(word: &Word<V, L>, last: u64, seat: 
     requires book { seat.old.book ≡ word.now.book }
     requires makes { MayMake seat.old.view word.now.key L.holds seat.old.id M.told last }
     ensures seat { (seat.new.book ≡ seat.old.book) × (seat.new.id ≡ seat.old.id) }
-    ensures told { Makes M.told (writes word.now.key last) seat.old.view last none_joined seat.new.view }
+    ensures made { Makes M.told (writes word.now.key last) seat.old.view last none_joined seat.new.view }
 {
     word.store::<Make<M>>(last, seat)
 }

@@ -1,8 +1,8 @@
 -- Look-ups in vain, one after another.
 use Rattle.std.proofs.Common.{◌∙◌, ℕ, List, [], ◌∷◌, ◌++◌, Option, Some, refl, sym, subst}
 use Rattle.word_hazards.specs.Views.{View}
-use Rattle.live_law.specs.Known.{Known, MadeCall}
-use Rattle.live_law.specs.Views.{ask, got}
+use Rattle.live_nodes.specs.Known.{Known, MadeCall}
+use Rattle.live_nodes.specs.Views.{ask, got}
 use Rattle.live_owners.specs.declared.handle.Lent.{Lent}
 use Rattle.live_owners.specs.Owners.{OwnersKnown, KnowsMore, RetiresNone, FoundRetired, LookedInVain, FindsOwner, GetsOwner}
 use Rattle.live_owners.proofs.Steps.{more_on}

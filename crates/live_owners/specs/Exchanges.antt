@@ -1,8 +1,8 @@
 -- EXCHANGES BY TICKET, and additions.
 use Rattle.std.specs.Prelude.{◌≡◌, ◌⊎◌, ℕ, Option, None, Some, Ok, Err}
 use Rattle.word_hazards.specs.Views.{HasIssued}
-use Rattle.live_law.specs.Known.{Known, MadeCall}
-use Rattle.live_law.specs.Views.{ask, got}
+use Rattle.live_nodes.specs.Known.{Known, MadeCall}
+use Rattle.live_nodes.specs.Views.{ask, got}
 use Rattle.live_updates.specs.Entries.{swapped}
 use Rattle.live_updates.specs.ClosureEntries.{inserted_with}
 use Rattle.live_owners.specs.declared.handle.Previous.{Previous}

@@ -4,8 +4,8 @@ use base.Stored.{Coded, coded×, coded_via}
 use Rattle.word_book.specs.Book.{Book, book_coded}
 use Rattle.word_hazards.specs.Views.{View, In, HasLent, HasIssued, HasReclaimed}
 use Rattle.share_rule.specs.History.{Entry}
-use Rattle.live_law.specs.Known.{Known, MadeCall}
-use Rattle.live_law.specs.Views.{ask, got, inserted}
+use Rattle.live_nodes.specs.Known.{Known, MadeCall}
+use Rattle.live_nodes.specs.Views.{ask, got, inserted}
 use Rattle.live_owners.specs.declared.handle.Lent.{Lent}
 use Rattle.live_owners.specs.declared.handle.Previous.{Previous}
 

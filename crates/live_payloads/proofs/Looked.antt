@@ -1,13 +1,13 @@
 -- Look-ups in vain, one after another, and what comes after calls that changed nothing.
 use Rattle.std.proofs.Common.{◌≡◌, ℕ, List, [], ◌∷◌, ◌++◌, Option, Some, Result, Ok, Err, IfOk, refl, sym, ap, ◌∙◌, subst, rules, None, IfSome}
 use mathlib.Core.List.{IsPrefix}
-use Rattle.live_law.specs.Known.{Known, MadeCall}
-use Rattle.live_law.specs.Views.{ask, got, inserted}
+use Rattle.live_nodes.specs.Known.{Known, MadeCall}
+use Rattle.live_nodes.specs.Views.{ask, got, inserted}
 use Rattle.live_updates.specs.Entries.{swapped}
-use Rattle.live_slots.specs.declared.log.LogEntry.{LogEntry}
-use Rattle.live_slots.specs.declared.log.LogEntry.TheVariants.{Issued}
-use Rattle.live_slots.specs.Tickets.{HasIssued, IsNew, Loan}
-use Rattle.live_slots.proofs.Logs.{get_prefix, prefix_self, prefix_trans}
+use Rattle.word_slots.specs.declared.log.LogEntry.{LogEntry}
+use Rattle.word_slots.specs.declared.log.LogEntry.TheVariants.{Issued}
+use Rattle.word_slots.specs.Tickets.{HasIssued, IsNew, Loan}
+use Rattle.word_slots.proofs.Logs.{get_prefix, prefix_self, prefix_trans}
 use Rattle.live_payloads.specs.Payloads.{PayloadsKnown, FoundRetired, LookedInVain, KnowsMore, FindsPayload, GetsPayload, InsertsPayload, ExchangesPayload}
 
 pub vain_once : (key t : ℕ) (k n : Known) → MadeCall k (got (ask k.caller key 0 0) (Some t)) n → LookedInVain key k n

@@ -6,12 +6,12 @@ use Rattle.std.proofs.lemmas.List.Sums.{fold-append}
 use mathlib.Core.List.{IsPrefix}
 use Rattle.spec_map.specs.Map.{Pairs, Rises, lookup, put}
 use Rattle.spec_map.proofs.MapLaws.{lookup-first, lookup-next, lookup-put_same, lookup-put_other}
-use Rattle.live_law.specs.Known.{Known}
+use Rattle.live_nodes.specs.Known.{Known}
 use Rattle.live_scans.specs.Scans.{Waits}
 use Rattle.live_copies.specs.Copies.{HasCopied}
 use Rattle.live_copies.proofs.Inserted.{put_into_none}
-use Rattle.live_slots.specs.declared.log.LogEntry.{LogEntry}
-use Rattle.live_slots.specs.Tickets.{HasIssued}
+use Rattle.word_slots.specs.declared.log.LogEntry.{LogEntry}
+use Rattle.word_slots.specs.Tickets.{HasIssued}
 use Rattle.live_payloads.specs.Payloads.{IsPayloadOf}
 use Rattle.live_payloads.specs.Moves.{IsTicketFor}
 use Rattle.live_payloads.specs.inner.Moves.{map_of, HaveSameKeys, ArePlaced, AreIssuedFor}

@@ -1,16 +1,16 @@
 -- Tries, one after another.
 use Rattle.std.proofs.Common.{◌≡◌, ◌⊎◌, ℕ, zero, suc, Bool, List, [], ◌∷◌, Option, Some, None, Result, Ok, Err, IfOk, OnOk, IfErr, IfSome, IfNone, IsSomeAnd, refl, sym, ap, ◌∙◌, subst, inl, inr, unwrap_or}
 use mathlib.Core.List.{IsPrefix}
-use Rattle.live_law.specs.Known.{Known, MadeCall}
-use Rattle.live_law.specs.Views.{ask, got}
+use Rattle.live_nodes.specs.Known.{Known, MadeCall}
+use Rattle.live_nodes.specs.Views.{ask, got}
 use Rattle.live_growth.specs.declared.map.Refusal.{Refusal}
 use Rattle.live_growth.specs.declared.map.Refusal.TheVariants as refusals
 use Rattle.live_updates.specs.Refusals.{FoundNone, Refused}
 use Rattle.live_updates.specs.Closures.{Reaches, EndsWithCall}
 use Rattle.live_updates.specs.ClosureEntries.{inserted_with}
 use Rattle.live_updates.proofs.Reached.{last_on}
-use Rattle.live_slots.specs.declared.log.LogEntry.{LogEntry}
-use Rattle.live_slots.specs.Tickets.{HasIssued, IsNew, Loan}
+use Rattle.word_slots.specs.declared.log.LogEntry.{LogEntry}
+use Rattle.word_slots.specs.Tickets.{HasIssued, IsNew, Loan}
 use Rattle.live_payloads.specs.Payloads.{PayloadsKnown, FoundRetired, IsPayloadOf, IsLoanOf, GetsPayload, ExchangesPayload}
 use Rattle.live_payloads.specs.Tries.{HaveTried, Tried, ChangedNone, MissedNeighbour, FindsAtLast, AddsPayload, ReplacesPayload, FindsNeighbour}
 use Rattle.live_payloads.specs.Computes.{StoresComputed}

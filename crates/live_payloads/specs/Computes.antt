@@ -3,7 +3,7 @@ use Rattle.std.specs.Prelude.{◌≡◌, ℕ, Option, None, Some, option_copied}
 use Rattle.std.specs.Fn.{Mut, Called}
 use denote.Ref.{Bor}
 use Rattle.live_updates.specs.Closures.{EndsWithCall}
-use Rattle.live_slots.specs.Tickets.{Loan}
+use Rattle.word_slots.specs.Tickets.{Loan}
 use Rattle.live_payloads.specs.Payloads.{PayloadsKnown}
 use Rattle.live_payloads.specs.Tries.{AddsPayload, ReplacesPayload}
 

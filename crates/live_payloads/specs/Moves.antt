@@ -2,10 +2,10 @@
 use Rattle.std.specs.Prelude.{◌≡◌, ℕ, nat_eq, List, map, Option, None, Some}
 use Rattle.spec_map.specs.Map.{Pairs, lookup}
 use Rattle.share_rule.specs.History.{IsHistory}
-use Rattle.live_law.specs.Known.{Known}
+use Rattle.live_nodes.specs.Known.{Known}
 use Rattle.live_copies.specs.Copies.{HasCopied}
-use Rattle.live_slots.specs.declared.log.LogEntry.{LogEntry}
-use Rattle.live_slots.specs.Tickets.{HasIssued}
+use Rattle.word_slots.specs.declared.log.LogEntry.{LogEntry}
+use Rattle.word_slots.specs.Tickets.{HasIssued}
 use Rattle.live_payloads.specs.Payloads.{PayloadsKnown, IsPayloadOf}
 
 -- ALL KEYS of one moment were listed by a guard that knew k, each read back from its number

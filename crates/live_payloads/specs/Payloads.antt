@@ -5,11 +5,11 @@ use mathlib.Core.List.{IsPrefix}
 use Rattle.logbook.specs.Pages as logs
 use Rattle.word_book.specs.Book as words
 use Rattle.share_rule.specs.History.{Entry}
-use Rattle.live_law.specs.Known.{Known, MadeCall}
-use Rattle.live_law.specs.Views.{ask, got, inserted}
+use Rattle.live_nodes.specs.Known.{Known, MadeCall}
+use Rattle.live_nodes.specs.Views.{ask, got, inserted}
 use Rattle.live_updates.specs.Entries.{swapped}
-use Rattle.live_slots.specs.declared.log.LogEntry.{LogEntry}
-use Rattle.live_slots.specs.Tickets.{HasIssued, IsNew, Loan}
+use Rattle.word_slots.specs.declared.log.LogEntry.{LogEntry}
+use Rattle.word_slots.specs.Tickets.{HasIssued, IsNew, Loan}
 
 -- which map it is: that of the tickets, and the table of the payloads
 pub record PayloadMap : Type 0 where

@@ -1,14 +1,14 @@
 -- CALLS THAT TRY AGAIN: what the tries before the last one did, and what the last one did.
 use Rattle.std.specs.Prelude.{◌≡◌, ◌⊎◌, ℕ, zero, suc, Bool, true, false, List, Option, None, Some, IfSome, Ok, Err}
-use Rattle.live_law.specs.Known.{Known, MadeCall}
-use Rattle.live_law.specs.Views.{ask, got}
+use Rattle.live_nodes.specs.Known.{Known, MadeCall}
+use Rattle.live_nodes.specs.Views.{ask, got}
 use Rattle.live_updates.specs.Entries.{swapped}
 use Rattle.live_updates.specs.ClosureEntries.{inserted_with}
 use Rattle.live_scans.specs.Scans.{GaveUp, HasNext}
 use Rattle.live_scans.specs.Floors.{HasBefore}
 use Rattle.live_pool.specs.Pops.{HasPopped}
-use Rattle.live_slots.specs.declared.log.LogEntry.{LogEntry}
-use Rattle.live_slots.specs.Tickets.{HasIssued, IsNew, Loan}
+use Rattle.word_slots.specs.declared.log.LogEntry.{LogEntry}
+use Rattle.word_slots.specs.Tickets.{HasIssued, IsNew, Loan}
 use Rattle.live_payloads.specs.Payloads.{PayloadsKnown, IsPayloadOf, IsLoan, FindsPayload}
 
 -- SO MANY TRIES, one after another, each of which did this

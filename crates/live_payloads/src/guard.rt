@@ -2,14 +2,14 @@
 ghost use Rattle.std.specs.Prelude.{◌≡◌, ◌≢◌, ℕ, Some, IfOk, IfErr};
 ghost use mathlib.Core.List.{IsPrefix};
 ghost use Rattle.live_reads.specs.Meetings.{SeenMore};
-ghost use Rattle.live_slots.specs.Tickets.{HasIssued};
+ghost use Rattle.word_slots.specs.Tickets.{HasIssued};
 ghost use Rattle.live_payloads.specs.Payloads.{KnowsMore};
 
 use live_growth::map::Guard;
-use live_slots::lent::Lent;
-use live_slots::log::{SeenLog, agree};
 use std::marker::Model;
 use std::sync::Wait;
+use word_slots::lent::Lent;
+use word_slots::log::{SeenLog, agree};
 
 /// A caller of a map of payloads. Contracts see which map, what it has seen of the map of tickets, and the log of the tickets
 /// that were issued, as far as it is known.

@@ -2,7 +2,7 @@
 //!
 //! The live map has tickets as its values, and the payloads lie in slots.
 //!
-//! Tested in `test_live_slots`.
+//! Tested in `test_live_payloads`.
 #![tactic(auto)]
 
 pub mod guard;

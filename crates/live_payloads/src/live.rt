@@ -3,4 +3,4 @@
 pub use crate::guard::{PayloadGuard, meet};
 pub use crate::payload_congee::owners::share;
 pub use crate::payload_congee::{CongeeArc, PayloadCongee};
-pub use live_slots::lent::Lent;
+pub use word_slots::lent::Lent;

@@ -1,8 +1,8 @@
 //! `PayloadCongee`, the map from keys to payloads that threads read without a lock, and `CongeeArc`.
 //!
-//! Tested in `test_live_slots`.
+//! Tested in `test_live_payloads`.
 ghost use Rattle.std.specs.Prelude.{◌≡◌, ◌^◌, ◌-◌, ℕ, [], Some, IfOk, IfErr, IfSome, IfNone, OnErr};
-ghost use Rattle.live_slots.specs.Tickets.{HasIssued, IsNew};
+ghost use Rattle.word_slots.specs.Tickets.{HasIssued, IsNew};
 ghost use Rattle.live_payloads.specs.Payloads.{IsGuardOf, KnowsMore, IsLoan, LookedInVain, GetsPayload};
 
 mod closures;
@@ -21,9 +21,6 @@ use crate::guard::PayloadGuard;
 use crossbeam_utils::Backoff;
 use live_growth::map::{Busy, Refusal, TRIES};
 use live_pool::pool::Pool;
-use live_slots::lent::Lent;
-use live_slots::log::agree;
-use live_slots::slots::{Lack, Slots};
 use spec_map::error::OOMError;
 use spec_map::traits::Word;
 use std::alloc::Global;
@@ -31,6 +28,9 @@ use std::marker::{Model, PhantomData};
 use std::sync::atomic::AtomicU64;
 use std::sync::atomic::Ordering::SeqCst;
 use std::sync::{Arc, Wait};
+use word_slots::lent::Lent;
+use word_slots::log::agree;
+use word_slots::slots::{Lack, Slots};
 
 /// An ordered map from keys that are written as 64-bit numbers to payloads of any type, which threads share. Two keys with one
 /// number are one key.

@@ -1,7 +1,7 @@
 -- Pops of a range, one after another.
 use Rattle.std.proofs.Common.{◌≡◌, ℕ, [], ◌∷◌, length, refl, sym, subst, inl}
 use Rattle.spec_map.specs.Map.{Pairs}
-use Rattle.live_law.specs.Known.{Known}
+use Rattle.live_nodes.specs.Known.{Known}
 use Rattle.live_pool.specs.Removals.{HaveRemoved, HasEmptied, HaveTaken, HasExtracted}
 
 -- whoever gets them

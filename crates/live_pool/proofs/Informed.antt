@@ -10,8 +10,8 @@ use Rattle.live_nodes.specs.Seats.{SeatView}
 use Rattle.live_nodes.specs.Rule.{PlaceFits, Knows, RoomFits, client, IsLive}
 use Rattle.live_nodes.proofs.Frames.{each_both}
 use Rattle.live_nodes.proofs.Steps.{seats_stay, client_at}
-use Rattle.live_law.specs.Views.{View}
-use Rattle.live_law.specs.Tree.{IsMet, Knows as KnowsMap, IsMap}
+use Rattle.live_nodes.specs.Views.{View}
+use Rattle.live_nodes.specs.Tree.{IsMet, Knows as KnowsMap, IsMap}
 use Rattle.live_pool.specs.Successions.{learned, informed, Informs}
 
 told : (i j : ℕ) (v w : View) (ns : List Node) (vs : List View) → IsMap ns vs → get_elem? vs i ≡ some v → get_elem? vs j ≡ some w → IsMap ns (set (set vs j (learned w v)) i (learned v w))

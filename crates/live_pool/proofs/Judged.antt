@@ -2,7 +2,7 @@
 use Rattle.std.proofs.Common.{◌≡◌, ℕ, zero, suc, ◌+◌, ◌<◌, ◌≤◌, Bool, true, false, [], ◌∷◌, ◌++◌, length, take, get_or, length-take-le, refl, sym, subst, arith}
 use Rattle.std.proofs.lemmas.List.{take_all}
 use Rattle.spec_map.specs.Map.{Pairs, Rises}
-use Rattle.live_law.specs.Known.{Known}
+use Rattle.live_nodes.specs.Known.{Known}
 use Rattle.live_scans.specs.Scans.{HasRead, HasPage, Waits}
 use Rattle.live_scans.proofs.Composed.{shrunk}
 use Rattle.live_pool.specs.Retains.{HasListed, one_if, HasJudged, HaveJudged, HaveGone}

@@ -1,6 +1,6 @@
 -- Searches one after the other.
 use Rattle.std.proofs.Common.{◌≡◌, ◌⊎◌, ℕ, zero, suc, Bool, true, false, Option, Result, Ok, Err, IsErr, OnErr, refl, sym, ◌∙◌, subst, inl, inr}
-use Rattle.live_law.specs.Known.{Known}
+use Rattle.live_nodes.specs.Known.{Known}
 use Rattle.live_scans.specs.Scans.{GaveUp}
 use Rattle.live_scans.proofs.Pages.{begun_book, gave_up_book}
 use Rattle.live_pool.specs.Pops.{HasLost, HaveMissed, HasMissed, HasPopped}

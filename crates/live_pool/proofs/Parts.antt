@@ -7,9 +7,9 @@ use Rattle.spec_map.proofs.MapLaws.{lookup-first, lookup-next, lookup-below, Ris
 use Rattle.share_rule.specs.History.{Entry, entries_of, IsHistory}
 use Rattle.share_rule.proofs.Keeps.{entries-append}
 use Rattle.word_book.specs.Book.{Book}
-use Rattle.live_law.specs.Known.{Known, MadeCall}
-use Rattle.live_law.specs.Begun.{began}
-use Rattle.live_law.proofs.Histories.{its_own, began_legal}
+use Rattle.live_nodes.specs.Known.{Known, MadeCall}
+use Rattle.live_nodes.specs.Begun.{began}
+use Rattle.live_nodes.proofs.Histories.{its_own, began_legal}
 use Rattle.live_updates.specs.Takings.{taken, takings, Takes, HasTakenOut}
 use Rattle.live_updates.proofs.Taken.{HasAll, has_first, has_rest, taken_legal}
 use Rattle.live_scans.specs.Scans.{HasRead, HasBegun}

@@ -2,8 +2,8 @@
 use Rattle.std.proofs.Common.{◌≡◌, ℕ, ⊎_elim, List, [], ◌∷◌, ◌++◌, inl, inr, refl, sym, subst, ◌∙◌}
 use Rattle.live_nodes.specs.Seats.{place, SeatView, IsIn, Each}
 use Rattle.live_nodes.proofs.Frames.{each_map}
-use Rattle.live_law.specs.Levels.{place_at}
-use Rattle.live_law.specs.Views.{View}
+use Rattle.live_nodes.specs.Levels.{place_at}
+use Rattle.live_nodes.specs.Views.{View}
 use Rattle.live_reads.specs.Paths.{Sights, Keeps}
 use Rattle.live_reads.proofs.Stood.{last_known}
 use Rattle.live_growth.specs.Calls.{IsReady}

@@ -3,7 +3,7 @@ use Rattle.std.proofs.Common.{◌≡◌, ◌≢◌, ◌⊎◌, ℕ, ◌<◌, ◌
 use Rattle.spec_map.specs.Map.{Pairs, lookup, Rises}
 use Rattle.spec_map.proofs.MapLaws.{lookup-next}
 use Rattle.share_rule.specs.History.{Entry}
-use Rattle.live_law.specs.Known.{Known}
+use Rattle.live_nodes.specs.Known.{Known}
 use Rattle.live_scans.specs.Scans.{HasRead, HasBegun}
 use Rattle.live_pool.specs.Pops.{HasEnd}
 

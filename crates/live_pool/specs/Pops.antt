@@ -1,7 +1,7 @@
 -- POPS: the first pair or the last one of a range of keys is found while others write, and then removed. The pair is found at
 -- moments before that of its removal.
 use Rattle.std.specs.Prelude.{◌≡◌, ◌⊎◌, ℕ, zero, suc, ◌<◌, ◌≤◌, Bool, true, false, [], Option, Some, None, Ok, Err}
-use Rattle.live_law.specs.Known.{Known, MadeCall}
+use Rattle.live_nodes.specs.Known.{Known, MadeCall}
 use Rattle.live_updates.specs.Entries.{swapped}
 use Rattle.live_scans.specs.Scans.{HasRead, HasBegun, GaveUp, HasNext}
 use Rattle.live_scans.specs.Floors.{HasBefore}

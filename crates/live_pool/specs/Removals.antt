@@ -1,7 +1,7 @@
 -- THE PAIRS OF A RANGE of keys are removed one by one, keys ascending, while others write.
 use Rattle.std.specs.Prelude.{◌≡◌, ◌⊎◌, ℕ, zero, suc, ◌+◌, true, [], ◌∷◌, length, Some, None}
 use Rattle.spec_map.specs.Map.{Pairs}
-use Rattle.live_law.specs.Known.{Known}
+use Rattle.live_nodes.specs.Known.{Known}
 use Rattle.live_pool.specs.Pops.{HasPopped}
 
 -- so many pairs with keys from `low` on and below `high` were popped, one after the other, each of the keys behind the one

@@ -3,7 +3,7 @@
 -- state after the call.
 use Rattle.std.specs.Prelude.{◌≡◌, ◌⊎◌, ℕ, zero, suc, ◌+◌, Bool, true, false, [], ◌∷◌, Some, None, Ok, Err}
 use Rattle.spec_map.specs.Map.{Pairs}
-use Rattle.live_law.specs.Known.{Known, MadeCall}
+use Rattle.live_nodes.specs.Known.{Known, MadeCall}
 use Rattle.live_updates.specs.Entries.{swapped}
 use Rattle.live_scans.specs.Scans.{HasRead, HasBegun, Waits}
 

@@ -1,7 +1,7 @@
 -- What a seat takes over from another, and what two seats learn from each other.
 use Rattle.std.specs.Prelude.{◌≡◌, ◌++◌}
 use Rattle.live_nodes.specs.Seats.{Room, no_room, SeatView, seat_view}
-use Rattle.live_law.specs.Views.{View}
+use Rattle.live_nodes.specs.Views.{View}
 
 module _ {V : Type 0} where
   abbrev pub with_room : SeatView V → Room → SeatView V

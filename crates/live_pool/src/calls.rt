@@ -3,8 +3,8 @@
 //! Each is the call of the map. Before it a guard with little room gets nodes. After it one too many goes to the others, and paths
 //! are tidied that a writer was busy at.
 ghost use Rattle.std.specs.Prelude.{◌≡◌, ℕ, ◌+◌, ◌<◌, ◌≤◌, length, take, IfOk, IfErr, IfSome, OnErr, unwrap_or};
-ghost use Rattle.live_law.specs.Views.{ask, inserted};
-ghost use Rattle.live_law.specs.Known.{MadeCall};
+ghost use Rattle.live_nodes.specs.Views.{ask, inserted};
+ghost use Rattle.live_nodes.specs.Known.{MadeCall};
 ghost use Rattle.live_updates.specs.Entries.{removed, swapped};
 ghost use Rattle.live_updates.specs.Takings.{HasTakenOut};
 ghost use Rattle.live_updates.specs.Refusals.{Refused};

@@ -1,6 +1,6 @@
 //! Removals of the pairs for which a closure answers no.
 ghost use Rattle.std.specs.Prelude.{◌≡◌, ◌+◌, ◌≤◌, None, IfOk, length};
-ghost use Rattle.live_law.specs.Known.{MadeCall};
+ghost use Rattle.live_nodes.specs.Known.{MadeCall};
 ghost use Rattle.live_updates.specs.Entries.{swapped};
 ghost use Rattle.live_pool.specs.Retains.{HasJudged, HaveJudged, HasRetained};
 

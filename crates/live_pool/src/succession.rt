@@ -3,8 +3,8 @@ ghost use Rattle.std.specs.Prelude.{◌≡◌};
 ghost use Rattle.live_pool.specs.Successions.{Succeeds, Informs};
 
 use live_growth::map::Guard;
-use live_law::law::{MapLaw, MapView};
 use live_nodes::law::{NodeLaw, View};
+use live_nodes::map_law::{MapLaw, MapView};
 use live_reads::path::Seat;
 use word_book::seat::Meeting;
 
@@ -25,7 +25,7 @@ pub fn hand_over<V, L: NodeLaw<V>>(
     requires book { from.old.book ≡ to.old.book }
     ensures first { (from.new.book ≡ from.old.book) × (from.new.id ≡ from.old.id) }
     ensures second { (to.new.book ≡ to.old.book) × (to.new.id ≡ to.old.id) }
-    ensures told { Succeeds from.old.view to.old.view from.new.view to.new.view }
+    ensures succeeds { Succeeds from.old.view to.old.view from.new.view to.new.view }
 {
     from.meet::<Succession>(to)
 }
@@ -44,7 +44,7 @@ pub fn inform(a: &mut Seat, b: &mut Seat)
     requires book { a.old.book ≡ b.old.book }
     ensures first { (a.new.book ≡ a.old.book) × (a.new.id ≡ a.old.id) }
     ensures second { (b.new.book ≡ b.old.book) × (b.new.id ≡ b.old.id) }
-    ensures told { Informs a.old.view b.old.view a.new.view b.new.view }
+    ensures informs { Informs a.old.view b.old.view a.new.view b.new.view }
 {
     a.meet::<Information>(b)
 }

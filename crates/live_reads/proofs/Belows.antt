@@ -9,10 +9,10 @@ use Rattle.live_nodes.specs.Nodes.{Content, node}
 use Rattle.live_nodes.specs.Seats.{Read, IsIn}
 use Rattle.live_nodes.specs.Acts as acts
 use Rattle.live_layout.specs.Encodes.{Encodes, IsBelow as HasBelow, IsWord}
-use Rattle.live_law.specs.Levels.{Shape, name_of, Spot, spot}
-use Rattle.live_law.specs.Views.{View, locked, Watch, watch, watching}
-use Rattle.live_law.specs.Tree.{home_of, IsLocked, IsOwn, IsWatched, IsMap, IsNow, LearnsBelow}
-use Rattle.live_law.proofs.Looks.{with_view, met, is_now, is_current, leads_down}
+use Rattle.live_nodes.specs.Levels.{Shape, name_of, Spot, spot}
+use Rattle.live_nodes.specs.Views.{View, locked, Watch, watch, watching}
+use Rattle.live_nodes.specs.Tree.{home_of, IsLocked, IsOwn, IsWatched, IsMap, IsNow, LearnsBelow}
+use Rattle.live_nodes.proofs.Looks.{with_view, met, is_now, is_current, leads_down}
 
 pub node_below_own : (id : ℕ) (v : View) (b : Spot) (mine : IsIn b v.met) (word : ℕ) (saw : List (ℕ × ℕ)) (m : ℕ) → word ≡ 4 * m → (reads : List Read)
     → (a : Spot) (c : Content) → IsIn (locked a c) v.own → 2 ≤ a.shape.height → (x : ℕ) → x < 256 → (w : ℕ)

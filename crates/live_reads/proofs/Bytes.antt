@@ -13,7 +13,7 @@ use Rattle.std.proofs.lemmas.Simd.{tops_compared, mask_l-mod, bit_mask_l, get_or
 use Rattle.std.proofs.lemmas.Bool.{eq-eqb, ne_eqb, cases_eq}
 use Rattle.live_layout.specs.Words.{lane}
 use Rattle.live_layout.proofs.LaneLaws.{mask_is, bit_inside, set_inside}
-use Rattle.live_law.specs.Levels.{up, digit}
+use Rattle.live_nodes.specs.Levels.{up, digit}
 
 up_is : (h k : ℕ) → up h k ≡ k / 2 ^ (8 * h)
 up_is zero k = sym (div-one k)

@@ -4,9 +4,9 @@ use Rattle.spec_node.specs.declared.child.Child.TheVariants.{Node as Below}
 use Rattle.share_rule.specs.History.{Entry}
 use Rattle.live_nodes.specs.Seats.{SeatView}
 use Rattle.live_layout.specs.Encodes.{IsWord}
-use Rattle.live_law.specs.Levels.{place_at}
-use Rattle.live_law.specs.Views.{View, Ask, ask, got, inserted}
-use Rattle.live_law.specs.Tree.{Answers}
+use Rattle.live_nodes.specs.Levels.{place_at}
+use Rattle.live_nodes.specs.Views.{View, Ask, ask, got, inserted}
+use Rattle.live_nodes.specs.Tree.{Answers}
 use Rattle.live_reads.specs.Paths.{Names, Sights, Keeps, Ended, Looked, Found}
 
 abbrev Seen : Type 0

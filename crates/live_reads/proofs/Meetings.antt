@@ -2,9 +2,9 @@
 use Rattle.std.proofs.Common.{⊎_elim, ℕ, List, length-set, set, refl, sym, subst, arith}
 use Rattle.atomic_table.proofs.Lists.{at_set}
 use Rattle.live_nodes.specs.Acts as acts
-use Rattle.live_law.specs.Views.{View, view_of}
-use Rattle.live_law.specs.Tree.{Knows, IsMap}
-use Rattle.live_law.proofs.Histories.{sees_all}
+use Rattle.live_nodes.specs.Views.{View, view_of}
+use Rattle.live_nodes.specs.Tree.{Knows, IsMap}
+use Rattle.live_nodes.proofs.Histories.{sees_all}
 use Rattle.live_reads.specs.Meetings.{HaveMet}
 
 pub both_meet : (i j : ℕ) (v w : View) → acts.Meets IsMap i v j w (HaveMet i j v w)

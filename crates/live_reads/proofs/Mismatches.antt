@@ -14,11 +14,11 @@ use Rattle.live_nodes.specs.Rows.{AreOf, last_saw, without_reads}
 use Rattle.live_layout.specs.Words as cells
 use Rattle.live_layout.specs.Head.{IsHead}
 use Rattle.live_layout.specs.Encodes.{IsBelow, IsWord, Encodes}
-use Rattle.live_law.specs.Levels.{up, digit, Shape, Spot, spot, Covers, place_at}
-use Rattle.live_law.specs.Views.{View, locked, watch, Ask, got}
-use Rattle.live_law.specs.Tree.{IsMap, HasPrefix, IsOf, LearnsBelow, Watches, LearnsMiss, Misses, HasAnswer, Answers, IsOfKind}
-use Rattle.live_law.proofs.Looks.{node_below, node_misses, HadBelow}
-use Rattle.live_law.proofs.Plans.{bytes_above-key, joined, digit-low}
+use Rattle.live_nodes.specs.Levels.{up, digit, Shape, Spot, spot, Covers, place_at}
+use Rattle.live_nodes.specs.Views.{View, locked, watch, Ask, got}
+use Rattle.live_nodes.specs.Tree.{IsMap, HasPrefix, IsOf, LearnsBelow, Watches, LearnsMiss, Misses, HasAnswer, Answers, IsOfKind}
+use Rattle.live_nodes.proofs.Looks.{node_below, node_misses, HadBelow}
+use Rattle.live_nodes.proofs.Plans.{bytes_above-key, joined, digit-low}
 use Rattle.live_reads.specs.Paths.{Sights, HasOpened, IsOpen, Keeps}
 use Rattle.live_reads.specs.Sees.{Sees}
 use Rattle.live_reads.specs.Mismatches.{IsMismatched, IsAside, IsAbove, IsParted}

@@ -5,11 +5,11 @@ use Rattle.live_nodes.specs.Seats.{Place, place, read, SeatView, IsIn}
 use Rattle.live_nodes.specs.Plays as Plays
 use Rattle.live_nodes.specs.Plays.{Checks}
 use Rattle.live_nodes.specs.Calls.{MayCheck}
-use Rattle.live_law.specs.Levels.{up, Spot, place_at}
-use Rattle.live_law.specs.Views.{View}
-use Rattle.live_law.specs.Tree.{IsMap}
-use Rattle.live_law.specs.Roots.{History, IsRoot, LearnsRoot, MayLearnRoot}
-use Rattle.live_law.proofs.Plans.{root-top}
+use Rattle.live_nodes.specs.Levels.{up, Spot, place_at}
+use Rattle.live_nodes.specs.Views.{View}
+use Rattle.live_nodes.specs.Tree.{IsMap}
+use Rattle.live_nodes.specs.Roots.{History, IsRoot, LearnsRoot, MayLearnRoot}
+use Rattle.live_nodes.proofs.Plans.{root-top}
 use Rattle.live_reads.specs.Paths.{KnowsRootWord, Names, Keeps}
 use Rattle.live_reads.specs.Roots.{SeesRoot}
 use Rattle.live_reads.proofs.Views.{head_read, reading, reading_keeps, learned_keeps}

@@ -7,10 +7,10 @@ use Rattle.live_nodes.specs.Nodes.{Content}
 use Rattle.live_nodes.specs.Seats.{Agree}
 use Rattle.live_layout.specs.Words as cells
 use Rattle.live_layout.specs.Head.{IsHead}
-use Rattle.live_law.specs.Levels.{up, digit, Shape, Covers, bytes_above, Spot, place_at}
-use Rattle.live_law.specs.Views.{View}
-use Rattle.live_law.specs.Tree.{HasPrefix, IsOf}
-use Rattle.live_law.proofs.Plans.{root-top, joined, bytes_above-key}
+use Rattle.live_nodes.specs.Levels.{up, digit, Shape, Covers, bytes_above, Spot, place_at}
+use Rattle.live_nodes.specs.Views.{View}
+use Rattle.live_nodes.specs.Tree.{HasPrefix, IsOf}
+use Rattle.live_nodes.proofs.Plans.{root-top, joined, bytes_above-key}
 use Rattle.live_reads.specs.Paths.{Names, Sights, Leaves, Keeps}
 use Rattle.live_reads.proofs.Views.{IsHeaded}
 use Rattle.live_reads.specs.Sees.{Alike, Sees, HasMet}

@@ -2,8 +2,8 @@
 use Rattle.std.proofs.Common.{ℕ, zero, suc, ◌≡◌, ◌/◌, ◌<◌, ◌≤◌, Option, Some, None, IfSome, ap, sym, ◌∙◌, subst, arith}
 use Rattle.live_nodes.specs.Seats.{Place, SeatView, IsIn}
 use Rattle.word_book.specs.Book.{Book}
-use Rattle.live_law.specs.Levels.{up, Spot, place_at}
-use Rattle.live_law.specs.Views.{View}
+use Rattle.live_nodes.specs.Levels.{up, Spot, place_at}
+use Rattle.live_nodes.specs.Views.{View}
 use Rattle.live_reads.specs.Paths.{Names, IsOpen, Keeps}
 use Rattle.live_reads.specs.Positions.{KnowsPosition, KnowsLast}
 use Rattle.live_reads.specs.declared.descend.Position.{Position}

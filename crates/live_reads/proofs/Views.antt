@@ -16,10 +16,10 @@ use Rattle.live_nodes.specs.Calls.{KnowsPlace, KnowsCell, MayCheck}
 use Rattle.live_nodes.specs.Rows.{AreOf, last_saw, unread, MayRead, without_reads}
 use Rattle.live_layout.specs.Encodes.{words_of, IsBelow, IsWord, Encodes}
 use Rattle.live_layout.proofs.StandLaws.{few_forms}
-use Rattle.live_law.specs.Levels.{up, digit, Shape, Spot, spot, name_of, Covers, place_at}
-use Rattle.live_law.specs.Views.{View, Ask, got}
-use Rattle.live_law.specs.Tree.{IsMap, LearnsNode, LearnsHead, Headed, Looks, GoesTo, HasAnswer, Answers, IsOfKind, IsNow, IsOf}
-use Rattle.live_law.proofs.Looks.{node_looks, node_heads}
+use Rattle.live_nodes.specs.Levels.{up, digit, Shape, Spot, spot, name_of, Covers, place_at}
+use Rattle.live_nodes.specs.Views.{View, Ask, got}
+use Rattle.live_nodes.specs.Tree.{IsMap, LearnsNode, LearnsHead, Headed, Looks, GoesTo, HasAnswer, Answers, IsOfKind, IsNow, IsOf}
+use Rattle.live_nodes.proofs.Looks.{node_looks, node_heads}
 use Rattle.live_reads.specs.Paths.{KnowsRootWord, Names, Sights, AreNamed, HasOpened, IsOpen, Keeps, Told}
 
 abbrev Seen : Type 0

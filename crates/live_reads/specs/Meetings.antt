@@ -2,8 +2,8 @@
 use Rattle.std.specs.Prelude.{◌≡◌, ℕ, nat_eq, List}
 use Rattle.share_rule.specs.History.{Entry, StartsWith, IsLegalHistory}
 use Rattle.share_rule.specs.inner.Rule.{HasSeen}
-use Rattle.live_law.specs.Views.{View, view_of}
-use Rattle.live_law.specs.Known.{Known, own_entries}
+use Rattle.live_nodes.specs.Views.{View, view_of}
+use Rattle.live_nodes.specs.Known.{Known, own_entries}
 
 -- NO CALL WAS MADE: what is seen then is a legal history that begins with what was seen, and has no more entries of the
 -- caller

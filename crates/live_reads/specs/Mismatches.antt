@@ -9,9 +9,9 @@ use Rattle.live_nodes.specs.Seats.{Read, read, Hold, SeatView, IsIn, Agree}
 use Rattle.live_nodes.specs.Plays.{read_of}
 use Rattle.live_nodes.specs.Rows.{AreOf}
 use Rattle.live_layout.specs.Encodes.{Encodes, IsBelow, IsWord}
-use Rattle.live_law.specs.Levels.{up, digit, Shape, Spot, name_of, Covers, bytes_above, place_at}
-use Rattle.live_law.specs.Views.{View, locked, Watch, watch}
-use Rattle.live_law.specs.Tree.{IsOf}
+use Rattle.live_nodes.specs.Levels.{up, digit, Shape, Spot, name_of, Covers, bytes_above, place_at}
+use Rattle.live_nodes.specs.Views.{View, locked, Watch, watch}
+use Rattle.live_nodes.specs.Tree.{IsOf}
 use Rattle.live_reads.specs.Paths.{Names}
 
 -- the node whose word was taken last

@@ -5,9 +5,9 @@ use Rattle.word_book.specs.Book.{Book, Name}
 use Rattle.live_nodes.specs.Seats.{Place, place, Read, read, SeatView, IsIn}
 use Rattle.live_nodes.specs.Rows.{AreOf}
 use Rattle.live_layout.specs.Encodes.{IsWord}
-use Rattle.live_law.specs.Levels.{up, digit, Shape, bytes_above, Spot, name_of, Covers, place_at}
-use Rattle.live_law.specs.Views.{View, Ask, got}
-use Rattle.live_law.specs.Tree.{IsOf, Answers}
+use Rattle.live_nodes.specs.Levels.{up, digit, Shape, bytes_above, Spot, name_of, Covers, place_at}
+use Rattle.live_nodes.specs.Views.{View, Ask, got}
+use Rattle.live_nodes.specs.Tree.{IsOf, Answers}
 
 abbrev pub KnowsRootWord : SeatView View → Type 0
 KnowsRootWord v = IsIn (place 0 1 1) v.places

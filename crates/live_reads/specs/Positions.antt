@@ -1,7 +1,7 @@
 -- Where a call has come to on the path down.
 use Rattle.std.specs.Prelude.{◌≡◌, ℕ, ◌<◌, ◌≤◌, Option, Some, None}
 use Rattle.live_nodes.specs.Seats.{SeatView}
-use Rattle.live_law.specs.Views.{View}
+use Rattle.live_nodes.specs.Views.{View}
 use Rattle.live_reads.specs.declared.descend.Position.{Position}
 use Rattle.live_reads.specs.declared.prefix_match.Mismatch.{Mismatch}
 use Rattle.live_reads.specs.declared.descend.End.{End}

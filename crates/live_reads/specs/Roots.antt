@@ -1,10 +1,10 @@
 -- What a seat has seen once the root word was read.
 use Rattle.std.specs.Prelude.{◌≡◌, ℕ, Option, Some, None}
 use Rattle.live_nodes.specs.Seats.{SeatView}
-use Rattle.live_law.specs.Views.{View}
-use Rattle.live_law.specs.Tree.{Answers}
-use Rattle.live_law.specs.Begun.{began}
-use Rattle.live_law.specs.Roots.{History}
+use Rattle.live_nodes.specs.Views.{View}
+use Rattle.live_nodes.specs.Tree.{Answers}
+use Rattle.live_nodes.specs.Begun.{began}
+use Rattle.live_nodes.specs.Roots.{History}
 
 -- The root was found, and what is seen then was picked, or no more is seen.
 abbrev pub SeesRoot : (History → History → Type 0) → SeatView View → SeatView View → Option ℕ → Type 0

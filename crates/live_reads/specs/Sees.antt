@@ -2,8 +2,8 @@
 use Rattle.std.specs.Prelude.{◌≡◌, ◌≢◌, ℕ, ◌+◌, ◌-◌, ◌<◌, ◌≤◌, List, length, slice_index, Option, Some, None}
 use Rattle.word_book.specs.Book.{Book, Name}
 use Rattle.live_nodes.specs.Seats.{SeatView}
-use Rattle.live_law.specs.Levels.{digit}
-use Rattle.live_law.specs.Views.{View}
+use Rattle.live_nodes.specs.Levels.{digit}
+use Rattle.live_nodes.specs.Views.{View}
 use Rattle.live_reads.specs.declared.prefix_match.PrefixMatch.{PrefixMatch}
 use Rattle.live_reads.specs.declared.prefix_match.PrefixMatch.TheVariants as prefix_matches
 use Rattle.live_reads.specs.declared.prefix_match.Next.{Next}

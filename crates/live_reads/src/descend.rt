@@ -31,9 +31,10 @@ pub struct End<'a> {
 fn begin_at_root<'a>(nodes: &'a Nodes, key: u64, seat: &mut Seat) -> Option<End<'a>>
     requires book { seat.old.book ≡ nodes.now }
     requires root_word { KnowsRootWord seat.old.view }
-    ensures told { (seat.new.book ≡ seat.old.book) × (seat.new.id ≡ seat.old.id)
-        × Keeps seat.old.view seat.new.view
-        × (seat.new.view.client.seen ≡ seat.old.view.client.seen) }
+    ensures book { seat.new.book ≡ seat.old.book }
+    ensures id { seat.new.id ≡ seat.old.id }
+    ensures keeps { Keeps seat.old.view seat.new.view }
+    ensures seen { seat.new.view.client.seen ≡ seat.old.view.client.seen }
     ensures begins { IfSome result (λ end. let here = end.here
         in KnowsPosition seat.new.view key end.position
         × IsOpen seat.new.view seat.new.book here.words.now here.taken end.position.name key end.position.height) }
@@ -65,9 +66,10 @@ pub(crate) fn begin<'a>(
     requires book { seat.old.book ≡ nodes.now }
     requires root_word { KnowsRootWord seat.old.view }
     requires last { KnowsLast seat.old.view last }
-    ensures told { (seat.new.book ≡ seat.old.book) × (seat.new.id ≡ seat.old.id)
-        × Keeps seat.old.view seat.new.view
-        × (seat.new.view.client.seen ≡ seat.old.view.client.seen) }
+    ensures book { seat.new.book ≡ seat.old.book }
+    ensures id { seat.new.id ≡ seat.old.id }
+    ensures keeps { Keeps seat.old.view seat.new.view }
+    ensures seen { seat.new.view.client.seen ≡ seat.old.view.client.seen }
     ensures begins { IfSome result (λ end. let here = end.here
         in KnowsPosition seat.new.view key end.position
         × IsOpen seat.new.view seat.new.book here.words.now here.taken end.position.name key end.position.height) }
@@ -95,10 +97,11 @@ pub fn descend_from<'a>(
     requires book { seat.old.book ≡ nodes.now }
     requires root_word { KnowsRootWord seat.old.view }
     requires last { KnowsLast seat.old.view last }
-    ensures told { (seat.new.book ≡ seat.old.book) × (seat.new.id ≡ seat.old.id)
-        × Keeps seat.old.view seat.new.view
-        × (seat.new.view.client.seen ≡ seat.old.view.client.seen)
-        × IfSome result (λ end. IsEnd seat.new.view key end) }
+    ensures book { seat.new.book ≡ seat.old.book }
+    ensures id { seat.new.id ≡ seat.old.id }
+    ensures keeps { Keeps seat.old.view seat.new.view }
+    ensures seen { seat.new.view.client.seen ≡ seat.old.view.client.seen }
+    ensures end { IfSome result (λ end. IsEnd seat.new.view key end) }
     ensures leaf { IfSome result (λ end. let here = end.here in end.position.height ≡ 1
         → IsOpen seat.new.view seat.new.book here.words.now here.taken end.position.name key 1) }
 {
@@ -145,10 +148,11 @@ pub fn descend_from<'a>(
 pub fn descend<'a>(nodes: &'a Nodes, key: u64, seat: &mut Seat) -> Option<End<'a>>
     requires book { seat.old.book ≡ nodes.now }
     requires root_word { KnowsRootWord seat.old.view }
-    ensures told { (seat.new.book ≡ seat.old.book) × (seat.new.id ≡ seat.old.id)
-        × Keeps seat.old.view seat.new.view
-        × (seat.new.view.client.seen ≡ seat.old.view.client.seen)
-        × IfSome result (λ end. IsEnd seat.new.view key end) }
+    ensures book { seat.new.book ≡ seat.old.book }
+    ensures id { seat.new.id ≡ seat.old.id }
+    ensures keeps { Keeps seat.old.view seat.new.view }
+    ensures seen { seat.new.view.client.seen ≡ seat.old.view.client.seen }
+    ensures end { IfSome result (λ end. IsEnd seat.new.view key end) }
     ensures leaf { IfSome result (λ end. let here = end.here in end.position.height ≡ 1
         → IsOpen seat.new.view seat.new.book here.words.now here.taken end.position.name key 1) }
 {

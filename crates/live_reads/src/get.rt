@@ -8,7 +8,7 @@ use crate::last_leaf::LastLeaf;
 use crate::mismatch::ends_above;
 use crate::path::{Nodes, Seat, look, open, root};
 use crate::prefix_match::{Next, step};
-use live_law::law::Asks;
+use live_nodes::map_law::Asks;
 
 /// The value of a key. Its leaf is the last one then, as one below the root: the node above isn't kept. `None` where a writer came in
 /// between.
@@ -22,9 +22,10 @@ pub fn get_once<A: Asks>(
     requires asks { (A.ask.key ≡ key) × (A.ask.caller ≡ seat.old.id) × (A.reads ≡ true) }
     requires root_word { KnowsRootWord seat.old.view }
     requires last { KnowsLast seat.old.view last.old }
-    ensures told { (seat.new.book ≡ seat.old.book) × (seat.new.id ≡ seat.old.id)
-        × Keeps seat.old.view seat.new.view
-        × Found A.ask result seat.old.view seat.new.view }
+    ensures book { seat.new.book ≡ seat.old.book }
+    ensures id { seat.new.id ≡ seat.old.id }
+    ensures keeps { Keeps seat.old.view seat.new.view }
+    ensures found { Found A.ask result seat.old.view seat.new.view }
     ensures last { KnowsLast seat.new.view last.new }
 {
     let top = root(nodes, key, seat)?;

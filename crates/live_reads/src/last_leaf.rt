@@ -2,7 +2,7 @@
 //! the leaf since.
 ghost use Rattle.std.specs.Prelude.{◌≡◌, IfSome};
 ghost use Rattle.live_nodes.specs.Seats.{SeatView};
-ghost use Rattle.live_law.specs.Views.{View};
+ghost use Rattle.live_nodes.specs.Views.{View};
 ghost use Rattle.live_reads.specs.Paths.{IsOpen, Keeps};
 ghost use Rattle.live_reads.specs.Positions.{KnowsPosition, KnowsLast};
 
@@ -45,9 +45,10 @@ pub fn open_last<'a>(
 ) -> Option<Opened<'a>>
     requires book { seat.old.book ≡ nodes.now }
     requires last { KnowsLast seat.old.view last }
-    ensures told { (seat.new.book ≡ seat.old.book) × (seat.new.id ≡ seat.old.id)
-        × Keeps seat.old.view seat.new.view
-        × (seat.new.view.client.seen ≡ seat.old.view.client.seen) }
+    ensures book { seat.new.book ≡ seat.old.book }
+    ensures id { seat.new.id ≡ seat.old.id }
+    ensures keeps { Keeps seat.old.view seat.new.view }
+    ensures seen { seat.new.view.client.seen ≡ seat.old.view.client.seen }
     ensures open { IfSome result (λ here. KnowsPosition seat.new.view key last.position
         × (last.position.height ≡ 1)
         × IsOpen seat.new.view seat.new.book here.words.now here.taken last.position.name key 1) }

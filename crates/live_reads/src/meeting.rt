@@ -4,7 +4,7 @@ ghost use Rattle.live_nodes.specs.Plays.{Meets};
 ghost use Rattle.live_reads.specs.Meetings.{HaveMet};
 
 use crate::path::Seat;
-use live_law::law::{MapLaw, MapView};
+use live_nodes::map_law::{MapLaw, MapView};
 use live_nodes::plays::OnMeet;
 use live_nodes::room;
 use std::marker::{Brand, PhantomData};
@@ -42,7 +42,7 @@ pub fn meet<C: Callers>(a: &mut Seat, b: &mut Seat)
     ensures first { (a.new.book ≡ a.old.book) × (a.new.id ≡ a.old.id) }
     ensures second { (b.new.book ≡ b.old.book) × (b.new.id ≡ b.old.id) }
     ensures differ { a.old.id ≢ b.old.id }
-    ensures told { Meets (HaveMet C.first C.second) a.old.view b.old.view a.new.view b.new.view }
+    ensures met { Meets (HaveMet C.first C.second) a.old.view b.old.view a.new.view b.new.view }
 {
     room::meet::<MapView, MapLaw, Both<C>>(a, b)
 }

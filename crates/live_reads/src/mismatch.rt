@@ -1,16 +1,16 @@
 //! A node that leads on to one whose path a key leaves: there the key's path ends.
 ghost use Rattle.std.specs.Prelude.{◌≡◌, ◌≤◌, Some, None, false, IfSome, IsTrue};
-ghost use Rattle.live_law.specs.Views.{got};
-ghost use Rattle.live_law.specs.Tree.{Answers};
+ghost use Rattle.live_nodes.specs.Views.{got};
+ghost use Rattle.live_nodes.specs.Tree.{Answers};
 ghost use Rattle.live_reads.specs.Paths.{Sights, IsOpen, Keeps};
 ghost use Rattle.live_reads.specs.Mismatches.{first_number, IsAside, IsAbove, IsParted};
 
 use crate::path::{Nodes, Opened, Seat, byte_at, open};
 use crate::prefix_match::{Mismatch, PrefixMatch, compare, enter};
-use live_law::law::{Above, Asks, Below, MapLaw, MapView, Miss};
 use live_layout::form::{form_below, slot_below};
 use live_layout::search::find;
 use live_layout::words::ReadWords;
+use live_nodes::map_law::{Above, Asks, Below, MapLaw, MapView, Miss};
 use live_nodes::node;
 use live_nodes::rows::SharedWords;
 use std::marker::Brand;
@@ -31,9 +31,10 @@ pub fn watch<N: Above>(
     requires height { (2 ≤ height) × (height ≤ 8) }
     requires below { Sights seat.old.view below }
     requires above { (N.number ≡ first_number seat.old.view.reads) × (N.word ≡ Some here.taken) }
-    ensures told { (seat.new.book ≡ seat.old.book) × (seat.new.id ≡ seat.old.id)
-        × Keeps seat.old.view seat.new.view
-        × (seat.new.view.client.seen ≡ seat.old.view.client.seen) }
+    ensures book { seat.new.book ≡ seat.old.book }
+    ensures id { seat.new.id ≡ seat.old.id }
+    ensures keeps { Keeps seat.old.view seat.new.view }
+    ensures seen { seat.new.view.client.seen ≡ seat.old.view.client.seen }
     ensures aside { IfSome result (λ mismatch. IsAside seat.new.view seat.new.book
         here.entry.words.now here.entry.taken name key height mismatch.at mismatch.byte) }
 {
@@ -78,8 +79,9 @@ pub fn ends_above<A: Asks>(
     requires asks { (A.ask.key ≡ key) × (A.ask.caller ≡ seat.old.id) }
     requires sighted { Sights seat.old.view name × Sights seat.old.view below }
     requires height { (2 ≤ height) × (height ≤ 8) }
-    ensures told { (seat.new.book ≡ seat.old.book) × (seat.new.id ≡ seat.old.id)
-        × Keeps seat.old.view seat.new.view }
+    ensures book { seat.new.book ≡ seat.old.book }
+    ensures id { seat.new.id ≡ seat.old.id }
+    ensures keeps { Keeps seat.old.view seat.new.view }
     ensures ends { IsTrue result → Answers A.ask.caller (got A.ask None)
         seat.old.view.client.seen seat.new.view.client.seen }
     ensures busy { result ≡ false → seat.new.view.client.seen ≡ seat.old.view.client.seen }
@@ -99,9 +101,10 @@ pub fn parts<N: Above>(nodes: &Nodes, mismatch: Mismatch, key: u64, seat: &mut S
     requires book { seat.old.book ≡ nodes.now }
     requires below { Sights seat.old.view mismatch.below }
     requires above { IsAbove seat.old.view mismatch.below N.number N.word }
-    ensures told { (seat.new.book ≡ seat.old.book) × (seat.new.id ≡ seat.old.id)
-        × Keeps seat.old.view seat.new.view
-        × (seat.new.view.client.seen ≡ seat.old.view.client.seen) }
+    ensures book { seat.new.book ≡ seat.old.book }
+    ensures id { seat.new.id ≡ seat.old.id }
+    ensures keeps { Keeps seat.old.view seat.new.view }
+    ensures seen { seat.new.view.client.seen ≡ seat.old.view.client.seen }
     ensures parted { IsTrue result → IsParted seat.new.view mismatch.below key mismatch.at mismatch.byte N.number }
 {
     let Some(other) = open(nodes, mismatch.below, seat) else {

@@ -1,18 +1,18 @@
 //! The path of a key: from the root word to the root, and from a node to the one below.
 ghost use Rattle.std.specs.Prelude.{◌≡◌, ℕ, ◌-◌, ◌%◌, ◌<◌, ◌≤◌, [], ◌∷◌, length, slice_index, IfSome};
 ghost use Rattle.live_nodes.specs.Seats.{read};
-ghost use Rattle.live_law.specs.Levels.{digit};
-ghost use Rattle.live_law.specs.Roots.{MayLearnRoot};
+ghost use Rattle.live_nodes.specs.Levels.{digit};
+ghost use Rattle.live_nodes.specs.Roots.{MayLearnRoot};
 ghost use Rattle.live_reads.specs.Paths.{KnowsRootWord, Names, Sights, AreNamed, HasOpened, IsOpen, Keeps, Looked};
 ghost use Rattle.live_reads.specs.Roots.{SeesRoot, Begins};
 
-use live_law::law::{Asks, Look, MapLaw, MapView};
-use live_law::roots::{Root, Sees};
 use live_layout::form::{form_below, slot_below, words_in};
 use live_layout::search::find;
 use live_nodes::heap::Heap;
 use live_nodes::law::Word;
+use live_nodes::map_law::{Asks, Look, MapLaw, MapView};
 use live_nodes::node;
+use live_nodes::roots::{Root, Sees};
 use live_nodes::rows::SharedWords;
 use std::marker::Brand;
 
@@ -55,10 +55,11 @@ fn root_by<S: Sees>(nodes: &Nodes, key: u64, seat: &mut Seat) -> Option<u64>
     requires book { seat.old.book ≡ nodes.now }
     requires root_word { KnowsRootWord seat.old.view }
     requires learns { MayLearnRoot S.sees seat.old.id seat.old.view.client }
-    ensures told { (seat.new.book ≡ seat.old.book) × (seat.new.id ≡ seat.old.id)
-        × Keeps seat.old.view seat.new.view
-        × SeesRoot S.sees seat.old.view seat.new.view result
-        × IfSome result (λ name. Names seat.new.view name key 8) }
+    ensures book { seat.new.book ≡ seat.old.book }
+    ensures id { seat.new.id ≡ seat.old.id }
+    ensures keeps { Keeps seat.old.view seat.new.view }
+    ensures root { SeesRoot S.sees seat.old.view seat.new.view result }
+    ensures named { IfSome result (λ name. Names seat.new.view name key 8) }
 {
     let words = nodes.root_words();
     let root_word = &words[0];
@@ -82,10 +83,11 @@ fn root_by<S: Sees>(nodes: &Nodes, key: u64, seat: &mut Seat) -> Option<u64>
 pub fn root(nodes: &Nodes, key: u64, seat: &mut Seat) -> Option<u64>
     requires book { seat.old.book ≡ nodes.now }
     requires root_word { KnowsRootWord seat.old.view }
-    ensures told { (seat.new.book ≡ seat.old.book) × (seat.new.id ≡ seat.old.id)
-        × Keeps seat.old.view seat.new.view
-        × (seat.new.view.client.seen ≡ seat.old.view.client.seen)
-        × IfSome result (λ name. Names seat.new.view name key 8) }
+    ensures book { seat.new.book ≡ seat.old.book }
+    ensures id { seat.new.id ≡ seat.old.id }
+    ensures keeps { Keeps seat.old.view seat.new.view }
+    ensures seen { seat.new.view.client.seen ≡ seat.old.view.client.seen }
+    ensures named { IfSome result (λ name. Names seat.new.view name key 8) }
 {
     root_by::<Brand>(nodes, key, seat)
 }
@@ -96,10 +98,11 @@ pub fn root(nodes: &Nodes, key: u64, seat: &mut Seat) -> Option<u64>
 pub fn root_begun(nodes: &Nodes, key: u64, seat: &mut Seat) -> Option<u64>
     requires book { seat.old.book ≡ nodes.now }
     requires root_word { KnowsRootWord seat.old.view }
-    ensures told { (seat.new.book ≡ seat.old.book) × (seat.new.id ≡ seat.old.id)
-        × Keeps seat.old.view seat.new.view
-        × SeesRoot (Begins seat.old.id) seat.old.view seat.new.view result
-        × IfSome result (λ name. Names seat.new.view name key 8) }
+    ensures book { seat.new.book ≡ seat.old.book }
+    ensures id { seat.new.id ≡ seat.old.id }
+    ensures keeps { Keeps seat.old.view seat.new.view }
+    ensures root { SeesRoot (Begins seat.old.id) seat.old.view seat.new.view result }
+    ensures named { IfSome result (λ name. Names seat.new.view name key 8) }
 {
     root_by::<Brand>(nodes, key, seat)
 }
@@ -124,9 +127,10 @@ pub struct Opened<'a> {
 pub fn open<'a>(nodes: &'a Nodes, name: u64, seat: &mut Seat) -> Option<Opened<'a>>
     requires book { seat.old.book ≡ nodes.now }
     requires sighted { Sights seat.old.view name }
-    ensures told { (seat.new.book ≡ seat.old.book) × (seat.new.id ≡ seat.old.id)
-        × Keeps seat.old.view seat.new.view
-        × (seat.new.view.client ≡ seat.old.view.client) }
+    ensures book { seat.new.book ≡ seat.old.book }
+    ensures id { seat.new.id ≡ seat.old.id }
+    ensures keeps { Keeps seat.old.view seat.new.view }
+    ensures client { seat.new.view.client ≡ seat.old.view.client }
     ensures opened { IfSome result (λ here. (here.taken % 4 ≡ 0)
         × ((n : Sights seat.old.view name)
         → HasOpened seat.new.view seat.new.book here.words.now here.taken n.spot)) }
@@ -153,9 +157,10 @@ pub fn look<A: Asks>(
     requires asks { (A.ask.key ≡ key) × (A.ask.caller ≡ seat.old.id) }
     requires open { IsOpen seat.old.view seat.old.book here.words.now here.taken name key height }
     requires height { (1 ≤ height) × (height ≤ 8) }
-    ensures told { (seat.new.book ≡ seat.old.book) × (seat.new.id ≡ seat.old.id)
-        × Keeps seat.old.view seat.new.view
-        × Looked A.reads A.ask height result seat.old.view seat.new.view }
+    ensures book { seat.new.book ≡ seat.old.book }
+    ensures id { seat.new.id ≡ seat.old.id }
+    ensures keeps { Keeps seat.old.view seat.new.view }
+    ensures looked { Looked A.reads A.ask height result seat.old.view seat.new.view }
 {
     let Opened { words, taken } = here;
     let form = form_below(name);

@@ -3,16 +3,16 @@ ghost use Rattle.std.specs.Prelude.{◌≡◌, ◌≢◌, ℕ, ◌+◌, ◌-◌,
 ghost use Rattle.std.specs.Int.{bit_at};
 ghost use Rattle.live_layout.specs.Words.{lane};
 ghost use Rattle.live_layout.specs.Head.{IsHead};
-ghost use Rattle.live_law.specs.Levels.{digit};
+ghost use Rattle.live_nodes.specs.Levels.{digit};
 ghost use Rattle.live_reads.specs.Paths.{Sights, Leaves, IsOpen, Keeps, Ended};
 ghost use Rattle.live_reads.specs.Sees.{Sees, HasMet, Follows, IsNextOpen};
 
 use crate::path::{Nodes, Opened, Seat, look, open};
-use live_law::law::{Asks, Head, MapLaw, MapView};
 use live_layout::form::slot_below;
 use live_layout::head::prefix_len;
 use live_layout::lanes::lane_of;
 use live_layout::words::ReadWords;
+use live_nodes::map_law::{Asks, Head, MapLaw, MapView};
 use live_nodes::node;
 use live_nodes::rows::SharedWords;
 use std::simd::prelude::*;
@@ -110,9 +110,10 @@ fn compare_lanes(head: u64, key: u64) -> PrefixMatch
 pub fn meet<'a>(nodes: &'a Nodes, name: u64, key: u64, seat: &mut Seat) -> Option<Met<'a>>
     requires book { seat.old.book ≡ nodes.now }
     requires sighted { Sights seat.old.view name }
-    ensures told { (seat.new.book ≡ seat.old.book) × (seat.new.id ≡ seat.old.id)
-        × Keeps seat.old.view seat.new.view
-        × (seat.new.view.client.seen ≡ seat.old.view.client.seen) }
+    ensures book { seat.new.book ≡ seat.old.book }
+    ensures id { seat.new.id ≡ seat.old.id }
+    ensures keeps { Keeps seat.old.view seat.new.view }
+    ensures seen { seat.new.view.client.seen ≡ seat.old.view.client.seen }
     ensures met { IfSome result (λ met. let here = met.here
         in HasMet seat.new.view seat.new.book here.words.now here.taken name key met.prefix_match) }
 {
@@ -137,9 +138,10 @@ pub fn enter<'a>(
 ) -> Option<Opened<'a>>
     requires book { seat.old.book ≡ nodes.now }
     requires sighted { Sights seat.old.view name }
-    ensures told { (seat.new.book ≡ seat.old.book) × (seat.new.id ≡ seat.old.id)
-        × Keeps seat.old.view seat.new.view
-        × (seat.new.view.client.seen ≡ seat.old.view.client.seen) }
+    ensures book { seat.new.book ≡ seat.old.book }
+    ensures id { seat.new.id ≡ seat.old.id }
+    ensures keeps { Keeps seat.old.view seat.new.view }
+    ensures seen { seat.new.view.client.seen ≡ seat.old.view.client.seen }
     ensures open { IfSome result (λ here.
         IsOpen seat.new.view seat.new.book here.words.now here.taken name key height) }
 {
@@ -165,8 +167,9 @@ pub fn step<'a, A: Asks>(
     requires asks { (A.ask.key ≡ key) × (A.ask.caller ≡ seat.old.id) }
     requires open { IsOpen seat.old.view seat.old.book here.words.now here.taken name key height }
     requires height { (2 ≤ height) × (height ≤ 8) }
-    ensures told { (seat.new.book ≡ seat.old.book) × (seat.new.id ≡ seat.old.id)
-        × Keeps seat.old.view seat.new.view }
+    ensures book { seat.new.book ≡ seat.old.book }
+    ensures id { seat.new.id ≡ seat.old.id }
+    ensures keeps { Keeps seat.old.view seat.new.view }
     ensures none { IfNone result (seat.new.view.client.seen ≡ seat.old.view.client.seen) }
     ensures next { IfSome result (λ step. let here = step.here
         in Follows (Ended A.reads A.ask None) seat.old.view seat.new.view key height (Some step.next)

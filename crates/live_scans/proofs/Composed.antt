@@ -6,7 +6,7 @@ use Rattle.spec_map.proofs.JoinLaws.{Rises-append, lookup-append_left, lookup-ap
 use Rattle.share_rule.specs.History.{Entry, StartsWith, IsHistory}
 use Rattle.live_layout.specs.Order.{IsFrom}
 use Rattle.live_nodes.specs.Seats.{SeatView}
-use Rattle.live_law.specs.Views.{View}
+use Rattle.live_nodes.specs.Views.{View}
 use Rattle.live_scans.specs.Scans.{Moment, IsBetween, HasRead}
 use Rattle.live_scans.specs.inner.Moments.{SeesMore, HasNone, Reads}
 

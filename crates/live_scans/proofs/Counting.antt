@@ -5,7 +5,7 @@ use Rattle.spec_map.specs.Map.{Pairs}
 use Rattle.spec_map.proofs.ByteMapLaws.{length-from_Rises}
 use Rattle.live_nodes.specs.Seats.{SeatView}
 use Rattle.live_layout.specs.Page.{pairs_of}
-use Rattle.live_law.specs.Views.{View}
+use Rattle.live_nodes.specs.Views.{View}
 use Rattle.live_scans.specs.Scans.{HasRead}
 use Rattle.live_scans.specs.inner.Moments.{SeesMore, Reads}
 use Rattle.live_scans.specs.inner.Steps.{IsStep}

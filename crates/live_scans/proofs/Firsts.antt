@@ -1,7 +1,7 @@
 -- The first key with given upper bytes.
 use Rattle.std.proofs.Common.{◌≡◌, ℕ, ◌+◌, ◌-◌, ◌*◌, ◌^◌, ap, ◌∙◌, arith}
 use Rattle.std.proofs.Math.Nat.{one-le-pow}
-use Rattle.live_law.specs.Levels.{up}
+use Rattle.live_nodes.specs.Levels.{up}
 use Rattle.live_scans.proofs.Uppers.{up-filled}
 
 pub begun : (key height byte u s : ℕ) → u ≡ up height key → s ≡ 256 ^ (height - 1) → up (height - 1) ((256 * u + byte) * s) ≡ 256 * up height key + byte

@@ -7,9 +7,9 @@ use Rattle.spec_map.proofs.JoinLaws.{lookup-above}
 use Rattle.share_rule.specs.History.{StartsWith}
 use Rattle.word_book.specs.Book.{Book}
 use Rattle.live_nodes.specs.Seats.{SeatView}
-use Rattle.live_law.specs.Views.{View}
-use Rattle.live_law.specs.Known.{Known}
-use Rattle.live_law.specs.Begun.{began}
+use Rattle.live_nodes.specs.Views.{View}
+use Rattle.live_nodes.specs.Known.{Known}
+use Rattle.live_nodes.specs.Begun.{began}
 use Rattle.live_growth.specs.Calls.{known_of}
 use Rattle.live_reads.specs.Roots.{Begins}
 use Rattle.live_scans.specs.Scans.{Moment, IsBetween}

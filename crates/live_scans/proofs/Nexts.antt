@@ -19,11 +19,11 @@ use Rattle.live_layout.specs.Words as cells
 use Rattle.live_layout.specs.Head.{IsHead}
 use Rattle.live_layout.specs.Encodes.{IsBelow, IsWord, Encodes}
 use Rattle.live_layout.specs.Order.{IsFrom, IsBefore, HasNearest}
-use Rattle.live_law.specs.Levels.{up, digit, Shape, Spot, spot, Covers, place_at}
-use Rattle.live_law.specs.Views.{View, watch, Ask}
-use Rattle.live_law.specs.Tree.{IsMap, IsNow, IsOf, IsOfKind, LearnsNode, LearnsHead, LearnsBelow, Looks, Watches}
-use Rattle.live_law.proofs.Looks.{node_below, HadBelow}
-use Rattle.live_law.proofs.Plans.{digit-low}
+use Rattle.live_nodes.specs.Levels.{up, digit, Shape, Spot, spot, Covers, place_at}
+use Rattle.live_nodes.specs.Views.{View, watch, Ask}
+use Rattle.live_nodes.specs.Tree.{IsMap, IsNow, IsOf, IsOfKind, LearnsNode, LearnsHead, LearnsBelow, Looks, Watches}
+use Rattle.live_nodes.proofs.Looks.{node_below, HadBelow}
+use Rattle.live_nodes.proofs.Plans.{digit-low}
 use Rattle.live_reads.specs.Paths.{Names, Sights, HasOpened, IsOpen, Keeps}
 use Rattle.live_reads.specs.Sees.{Sees}
 use Rattle.live_reads.specs.Positions.{KnowsPosition}

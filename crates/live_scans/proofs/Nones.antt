@@ -8,10 +8,10 @@ use Rattle.live_nodes.specs.Seats.{SeatView}
 use Rattle.live_layout.specs.Encodes.{IsBelow, payload_of}
 use Rattle.live_layout.specs.Order.{IsFrom, HasNearest}
 use Rattle.live_layout.specs.Page.{AreListed}
-use Rattle.live_law.specs.Levels.{up, digit, Covers, Shape, Spot}
-use Rattle.live_law.specs.Views.{View}
-use Rattle.live_law.specs.Tree.{IsOfKind}
-use Rattle.live_law.proofs.Plans.{bytes_above-key, joined, digit-low}
+use Rattle.live_nodes.specs.Levels.{up, digit, Covers, Shape, Spot}
+use Rattle.live_nodes.specs.Views.{View}
+use Rattle.live_nodes.specs.Tree.{IsOfKind}
+use Rattle.live_nodes.proofs.Plans.{bytes_above-key, joined, digit-low}
 use Rattle.live_reads.specs.Paths.{Names}
 use Rattle.live_scans.specs.inner.Moments.{HasUnder, IsRead, HasNone, IsWithin, Reads}
 use Rattle.live_scans.specs.inner.Directions.{low_of, high_of}

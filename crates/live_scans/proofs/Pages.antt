@@ -5,9 +5,9 @@ use Rattle.share_rule.specs.History.{Entry, StartsWith, entries_of, IsHistory, I
 use Rattle.live_scans.specs.inner.Moments.{SeesMore}
 use Rattle.word_book.specs.Book.{Book}
 use Rattle.live_nodes.specs.Seats.{SeatView}
-use Rattle.live_law.specs.Views.{View}
-use Rattle.live_law.specs.Known.{Known}
-use Rattle.live_law.specs.Begun.{began}
+use Rattle.live_nodes.specs.Views.{View}
+use Rattle.live_nodes.specs.Known.{Known}
+use Rattle.live_nodes.specs.Begun.{began}
 use Rattle.live_growth.specs.Calls.{known_of}
 use Rattle.live_reads.specs.Roots.{Begins}
 use Rattle.live_growth.proofs.Ready.{made_call}

@@ -9,7 +9,7 @@ use Rattle.share_rule.specs.History.{Entry, IsLegalHistory}
 use Rattle.word_book.specs.Book.{Book}
 use Rattle.live_nodes.specs.Seats.{SeatView}
 use Rattle.live_layout.specs.Order.{IsFrom}
-use Rattle.live_law.specs.Views.{View}
+use Rattle.live_nodes.specs.Views.{View}
 use Rattle.live_reads.specs.Paths.{Keeps}
 use Rattle.live_reads.proofs.Finds.{keeps_then}
 use Rattle.live_layout.proofs.PageLaws.{filled_none}

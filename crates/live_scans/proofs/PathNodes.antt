@@ -6,8 +6,8 @@ use Rattle.live_nodes.specs.Seats.{SeatView, IsIn, Agree}
 use Rattle.live_nodes.specs.Plays.{Takes}
 use Rattle.live_nodes.specs.Rows.{AreOf, last_saw, without_reads}
 use Rattle.live_layout.specs.Words as cells
-use Rattle.live_law.specs.Levels.{up, Spot, place_at}
-use Rattle.live_law.specs.Views.{View}
+use Rattle.live_nodes.specs.Levels.{up, Spot, place_at}
+use Rattle.live_nodes.specs.Views.{View}
 use Rattle.live_reads.specs.Paths.{Names, HasOpened, IsOpen, Keeps}
 use Rattle.live_reads.proofs.Views.{reading, reading_keeps, reading_on_keeps, open_read, if_some}
 use Rattle.live_reads.proofs.Finds.{keeps_then, names_kept}

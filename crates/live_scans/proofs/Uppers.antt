@@ -2,8 +2,8 @@
 use Rattle.std.proofs.Common.{◌≡◌, ℕ, zero, suc, ◌+◌, ◌-◌, ◌*◌, ◌/◌, ◌^◌, ◌<◌, ◌≤◌, refl, sym, ap, ◌∙◌, subst, arith}
 use Rattle.std.proofs.Math.Nat.{pow-succ', mul-le-mul_right, one-le-pow, le-mul_of_pos_right, div-one, div-div-eq-div-mul, mul-suc}
 use Rattle.std.proofs.lemmas.Nat.{pow-add}
-use Rattle.live_law.specs.Levels.{up}
-use Rattle.live_law.proofs.Plans.{up-up, up-small}
+use Rattle.live_nodes.specs.Levels.{up}
+use Rattle.live_nodes.proofs.Plans.{up-up, up-small}
 
 -- what is above rises with the key
 pub up-rises : (h k l : ℕ) → k ≤ l → up h k ≤ up h l

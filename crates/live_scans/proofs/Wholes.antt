@@ -12,12 +12,12 @@ use Rattle.live_nodes.specs.Plays as Plays
 use Rattle.live_nodes.specs.Plays.{Checks}
 use Rattle.live_nodes.specs.Calls.{MayCheck}
 use Rattle.live_nodes.specs.Rows.{last_saw, unread, without_reads}
-use Rattle.live_law.specs.Levels.{up, digit, Covers, bytes_above, Shape, Spot, place_at}
-use Rattle.live_law.specs.Views.{Watch, View, view_of, ask}
-use Rattle.live_law.specs.Tree.{IsMap, IsNow, IsUnder, LeadsDown}
-use Rattle.live_law.proofs.Histories.{sees_all}
-use Rattle.live_law.proofs.Looks.{with_view, met, is_now, is_current, same_watched, of_kind, at_leaf, at_inner}
-use Rattle.live_law.proofs.Plans.{digit-low, none_there, missed, same_name}
+use Rattle.live_nodes.specs.Levels.{up, digit, Covers, bytes_above, Shape, Spot, place_at}
+use Rattle.live_nodes.specs.Views.{Watch, View, view_of, ask}
+use Rattle.live_nodes.specs.Tree.{IsMap, IsNow, IsUnder, LeadsDown}
+use Rattle.live_nodes.proofs.Histories.{sees_all}
+use Rattle.live_nodes.proofs.Looks.{with_view, met, is_now, is_current, same_watched, of_kind, at_leaf, at_inner}
+use Rattle.live_nodes.proofs.Plans.{digit-low, none_there, missed, same_name}
 use Rattle.live_reads.specs.Paths.{IsOpen, Keeps}
 use Rattle.live_reads.specs.Mismatches.{IsMismatched}
 use Rattle.live_reads.proofs.Views.{learned_keeps, may_check_open, open_checked, open_missed}

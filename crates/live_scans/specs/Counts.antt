@@ -1,7 +1,7 @@
 -- HOW MANY PAIRS there are, read while others write.
 use Rattle.std.specs.Prelude.{◌≡◌, ℕ, ◌^◌, Bool, true, length, Option, is_none}
 use Rattle.spec_map.specs.Map.{Pairs}
-use Rattle.live_law.specs.Known.{Known}
+use Rattle.live_nodes.specs.Known.{Known}
 use Rattle.live_scans.specs.Scans.{HasRead, HasBegun, HasNext}
 
 -- THE PAIRS WERE COUNTED by a guard that knew k: all keys were read, each at a moment of its own

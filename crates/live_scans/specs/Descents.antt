@@ -1,7 +1,7 @@
 -- A PAGE DOWNWARDS, read while others write. It is no snapshot: each key was read at a moment of its own.
 use Rattle.std.specs.Prelude.{◌≡◌, ℕ, ◌<◌, ◌≤◌, false, length, reverse}
 use Rattle.spec_map.specs.Map.{Pairs}
-use Rattle.live_law.specs.Known.{Known}
+use Rattle.live_nodes.specs.Known.{Known}
 use Rattle.live_scans.specs.Scans.{HasRead, HasBegun}
 
 -- A PAGE of the keys from `low` on and below `high` was read downwards by a guard that knew k, which has room for so many

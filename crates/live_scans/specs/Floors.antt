@@ -1,6 +1,6 @@
 -- THE PAIR BEFORE a key, read while others write.
 use Rattle.std.specs.Prelude.{ℕ, false, [], ◌∷◌, Option, Some, None}
-use Rattle.live_law.specs.Known.{Known}
+use Rattle.live_nodes.specs.Known.{Known}
 use Rattle.live_scans.specs.Scans.{HasRead, HasBegun}
 
 -- THE LAST PAIR below a key was found by a guard that knew k, or there was none: the keys behind it were read

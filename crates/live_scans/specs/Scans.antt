@@ -3,8 +3,8 @@ use Rattle.std.specs.Prelude.{◌≡◌, ◌⊎◌, ℕ, zero, suc, ◌+◌, ◌
 use Rattle.spec_map.specs.Map.{Pairs, lookup, Rises}
 use Rattle.share_rule.specs.History.{Entry, StartsWith, IsHistory}
 use Rattle.live_layout.specs.Order.{IsFrom}
-use Rattle.live_law.specs.Known.{Known, MadeCall}
-use Rattle.live_law.specs.Begun.{began}
+use Rattle.live_nodes.specs.Known.{Known, MadeCall}
+use Rattle.live_nodes.specs.Begun.{began}
 use Rattle.live_reads.specs.Meetings.{SeenMore}
 
 -- a moment of the map: a legal history, and the map that it leads to

@@ -12,8 +12,8 @@ use crate::keys::{end_byte, end_of, ends_leaf};
 use crate::leaf::read_leaf;
 use crate::next::{Lower, is_still};
 use crate::position::Position;
-use live_law::law::{Above, Asks, Below, MapLaw, MapView};
 use live_layout::page::RangeEntry;
+use live_nodes::map_law::{Above, Asks, Below, MapLaw, MapView};
 use live_nodes::node;
 use live_reads::path::{Opened, Seat};
 use std::marker::Brand;
@@ -101,7 +101,15 @@ pub fn read_beside<A: Asks, P: RangeEntry>(
     let bound = request.bound;
     let part = part_of(lower.node.key, bound);
     let name = lower.node.name;
-    let filled = read_leaf::<A, P>(lower.here, name, bound.up, part, buffer, request.start, seat)?;
+    let filled = read_leaf::<A, P>(
+        lower.here,
+        name,
+        bound.up,
+        part,
+        buffer,
+        request.start,
+        seat,
+    )?;
     let step = Step {
         count: filled.count,
         last: part.base + filled.reached as u64,

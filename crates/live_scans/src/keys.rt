@@ -1,7 +1,7 @@
 //! Keys as numbers: the first and the last one with given upper bytes.
 ghost use Rattle.std.specs.Prelude.{◌≡◌, ◌+◌, ◌-◌, ◌*◌, ◌^◌, ◌<◌, ◌≤◌, cond, IsTrue};
 ghost use Rattle.live_layout.specs.Order.{IsFrom};
-ghost use Rattle.live_law.specs.Levels.{up};
+ghost use Rattle.live_nodes.specs.Levels.{up};
 ghost use Rattle.live_scans.specs.inner.Directions.{EndsLeaf, IsNextKey};
 
 /// How many keys a node of this height has.

@@ -2,8 +2,8 @@
 ghost use Rattle.std.specs.Prelude.{◌≡◌, ℕ, ◌<◌, ◌≤◌, nat_eq, Bool, List, [], ◌∷◌, ◌++◌, length, reverse, Option, None};
 ghost use Rattle.spec_map.specs.Map.{Pairs, lookup};
 ghost use Rattle.share_rule.specs.History.{Entry, StartsWith, IsHistory};
-ghost use Rattle.live_law.specs.Known.{Known};
-ghost use Rattle.live_law.specs.Begun.{began};
+ghost use Rattle.live_nodes.specs.Known.{Known};
+ghost use Rattle.live_nodes.specs.Begun.{began};
 ghost use Rattle.live_scans.specs.Scans.{Moment, IsBetween, HasRead, HasPage};
 ghost use Rattle.live_scans.specs.Descents.{HasPageDown};
 

@@ -8,9 +8,9 @@ ghost use Rattle.live_scans.specs.inner.Nexts.{IsLeafOpen, IsReadOn};
 
 use crate::fill::fill_on;
 use crate::on_check::Whole;
-use live_law::law::{Asks, MapLaw, MapView};
 use live_layout::form::form_below;
 use live_layout::page::{Filled, Part, RangeEntry};
+use live_nodes::map_law::{Asks, MapLaw, MapView};
 use live_nodes::node;
 use live_nodes::rows::SharedWords;
 use live_reads::path::{Nodes, Opened, Seat};

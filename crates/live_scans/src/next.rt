@@ -4,8 +4,8 @@ ghost use Rattle.spec_node.specs.declared.child.Child.TheVariants.{Node};
 ghost use Rattle.live_layout.specs.Encodes.{IsWord};
 ghost use Rattle.live_layout.specs.Order.{IsFrom};
 ghost use Rattle.live_layout.specs.Page.{pairs_of};
-ghost use Rattle.live_law.specs.Levels.{up};
-ghost use Rattle.live_law.specs.Levels as levels;
+ghost use Rattle.live_nodes.specs.Levels.{up};
+ghost use Rattle.live_nodes.specs.Levels as levels;
 ghost use Rattle.live_reads.specs.Paths.{Sights, IsOpen, Keeps};
 ghost use Rattle.live_reads.specs.Mismatches.{first_number};
 ghost use Rattle.live_scans.specs.inner.Moments.{SeesMore, HasNone, IsPassed};
@@ -17,10 +17,10 @@ use crate::bound::{Request, Step, is_beyond};
 use crate::keys::{end_byte, end_of, ends_leaf, floor_of, key_before, span, upper};
 use crate::on_check::Whole;
 use crate::position::Position;
-use live_law::law::{Above, Asks, Below, Head, Look, MapLaw, MapView};
 use live_layout::form::{form_below, slot_below};
 use live_layout::page::RangeEntry;
 use live_layout::words::ReadWords;
+use live_nodes::map_law::{Above, Asks, Below, Head, Look, MapLaw, MapView};
 use live_nodes::node;
 use live_nodes::rows::SharedWords;
 use live_reads::path::{Nodes, Opened, Seat, byte_at, open};
@@ -62,7 +62,13 @@ fn nearest_child(here: Opened<'_>, at: Position, up: bool, seat: &mut Seat) -> O
     ensures near { IsNear up seat.new.view seat.new.book here.entry.words.now here.entry.taken at result }
 {
     let row = SharedWords { words: here.words };
-    child_after(&row, form_below(at.name), up, byte_at(at.key, at.height), seat)
+    child_after(
+        &row,
+        form_below(at.name),
+        up,
+        byte_at(at.key, at.height),
+        seat,
+    )
 }
 
 /// Meets the nearest child of an open node, which has a key under the same byte. `false` where a writer came in between.

@@ -1,6 +1,6 @@
 //! What is learnt at the check of a node.
 
-use live_law::law::{Asks, MapView};
+use live_nodes::map_law::{Asks, MapView};
 use live_nodes::plays::OnCheck;
 use std::marker::PhantomData;
 

@@ -1,6 +1,6 @@
 //! Where the path of a reader begins.
 ghost use Rattle.std.specs.Prelude.{◌≡◌, ◌≤◌, IfSome};
-ghost use Rattle.live_law.specs.Levels.{up};
+ghost use Rattle.live_nodes.specs.Levels.{up};
 ghost use Rattle.live_reads.specs.Paths.{KnowsRootWord, Keeps};
 ghost use Rattle.live_scans.specs.inner.Stops.{IsTrail, Starts};
 

@@ -6,7 +6,7 @@ use Rattle.spec_map.specs.Map.{Pairs, lookup, without}
 use Rattle.spec_map.specs.Refusal.{never}
 use Rattle.spec_map.proofs.MapLaws.{without-absent}
 use Rattle.share_rule.specs.History.{Entry, entry, operations_of, IsHistory}
-use Rattle.live_law.specs.Views.{ask, got}
+use Rattle.live_nodes.specs.Views.{ask, got}
 use Rattle.live_updates.specs.Entries.{removed, swapped}
 use Rattle.live_updates.specs.inner.Lookups.{lookup_of, IsLookup, removal, absence, Swap, failure, exchange_fails}
 use Rattle.live_updates.specs.inner.Updates.{update_of, IsUpdate}

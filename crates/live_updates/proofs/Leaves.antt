@@ -10,13 +10,13 @@ use Rattle.live_nodes.proofs.Frames.{put_at, put_here, put_else}
 use Rattle.live_nodes.specs.Acts as acts
 use Rattle.live_nodes.specs.Nodes.{Content, node}
 use Rattle.live_layout.specs.Encodes.{words_of, Encodes, with_child}
-use Rattle.live_law.specs.Levels.{up, digit, Shape, Covers, Spot}
-use Rattle.live_law.specs.Views.{View, view_of, locked}
-use Rattle.live_law.specs.Tree.{Plan, HasValue, IsUnder, IsCurrent, IsLocked, IsMap}
-use Rattle.live_law.proofs.Changes.{tree_stays}
-use Rattle.live_law.proofs.Looks.{at_leaf}
-use Rattle.live_law.proofs.Plans.{joined}
-use Rattle.live_law.proofs.Writes.{current_at, its_own, home_locked, freed, goes_by}
+use Rattle.live_nodes.specs.Levels.{up, digit, Shape, Covers, Spot}
+use Rattle.live_nodes.specs.Views.{View, view_of, locked}
+use Rattle.live_nodes.specs.Tree.{Plan, HasValue, IsUnder, IsCurrent, IsLocked, IsMap}
+use Rattle.live_nodes.proofs.Changes.{tree_stays}
+use Rattle.live_nodes.proofs.Looks.{at_leaf}
+use Rattle.live_nodes.proofs.Plans.{joined}
+use Rattle.live_nodes.proofs.Writes.{current_at, its_own, home_locked, freed, goes_by}
 use Rattle.live_growth.proofs.Values.{value_once}
 use Rattle.live_updates.proofs.Ordered.{encodes_rise}
 use Rattle.live_updates.specs.inner.Updates.{Update, IsUpdate, child_for, Writes}

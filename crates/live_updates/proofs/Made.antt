@@ -3,8 +3,8 @@ use Rattle.std.proofs.Common.{◌≡◌, ◌≢◌, ℕ, Bool, List, Option, Som
 use Rattle.share_rule.specs.History.{Entry}
 use Rattle.word_book.specs.Book.{Book}
 use Rattle.live_nodes.specs.Seats.{SeatView}
-use Rattle.live_law.specs.Views.{View}
-use Rattle.live_law.specs.Tree.{Answers}
+use Rattle.live_nodes.specs.Views.{View}
+use Rattle.live_nodes.specs.Tree.{Answers}
 use Rattle.live_updates.specs.Entries.{swapped}
 use Rattle.live_updates.specs.declared.leaf.Missed.{Missed}
 use Rattle.live_reads.specs.declared.descend.End.{End}

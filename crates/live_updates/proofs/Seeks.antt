@@ -14,9 +14,9 @@ use Rattle.live_nodes.specs.Plays.{Checks}
 use Rattle.live_nodes.specs.Seats.{Place, Read, read, SeatView, seat_view, IsIn, Agree}
 use Rattle.live_nodes.specs.Rows.{last_saw, without_reads}
 use Rattle.live_layout.specs.Encodes.{IsBelow, Encodes}
-use Rattle.live_law.specs.Levels.{up, digit, Shape, Spot, spot, Covers, place_at}
-use Rattle.live_law.specs.Views.{View}
-use Rattle.live_law.specs.Tree.{IsMap, IsOfKind, Answers}
+use Rattle.live_nodes.specs.Levels.{up, digit, Shape, Spot, spot, Covers, place_at}
+use Rattle.live_nodes.specs.Views.{View}
+use Rattle.live_nodes.specs.Tree.{IsMap, IsOfKind, Answers}
 use Rattle.live_reads.specs.Mismatches.{IsMismatched}
 use Rattle.live_reads.specs.Paths.{IsOpen, Keeps, Sights}
 use Rattle.live_reads.proofs.Finds.{names_kept}

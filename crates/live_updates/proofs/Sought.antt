@@ -14,11 +14,11 @@ use Rattle.live_nodes.specs.Acts as acts
 use Rattle.live_nodes.specs.Nodes.{Node, node}
 use Rattle.live_nodes.specs.Rule.{PlaceFits}
 use Rattle.live_nodes.specs.Seats.{Each, IsIn, Place, Read}
-use Rattle.live_law.specs.Levels.{up, digit, Shape, Covers, bytes_above, Spot, spot}
-use Rattle.live_law.specs.Views.{View, view_of}
-use Rattle.live_law.specs.Tree.{IsUnder, IsMap}
-use Rattle.live_law.proofs.Looks.{with_entry, at_leaf, at_inner, same_watched, node_learns}
-use Rattle.live_law.proofs.Plans.{none_there, missed, same_name}
+use Rattle.live_nodes.specs.Levels.{up, digit, Shape, Covers, bytes_above, Spot, spot}
+use Rattle.live_nodes.specs.Views.{View, view_of}
+use Rattle.live_nodes.specs.Tree.{IsUnder, IsMap}
+use Rattle.live_nodes.proofs.Looks.{with_entry, at_leaf, at_inner, same_watched, node_learns}
+use Rattle.live_nodes.proofs.Plans.{none_there, missed, same_name}
 use Rattle.live_updates.specs.inner.Lookups.{Lookup, asked_by, IsLookup, MayEnd, Seeks, LearnsSeek}
 
 -- A seat's call ends, and the map stays.

@@ -18,11 +18,11 @@ use Rattle.live_nodes.specs.Nodes.{Content, node}
 use Rattle.live_nodes.specs.Seats.{Each}
 use Rattle.live_layout.specs.Encodes.{words_of, Encodes, payload_of}
 use Rattle.live_layout.specs.Page.{AreListed}
-use Rattle.live_law.specs.Levels.{Shape, Spot}
-use Rattle.live_law.specs.Views.{View, view_of, locked}
-use Rattle.live_law.specs.Tree.{Plan, HasPrefix, HasValue, IsUnder, IsCurrent, IsLocked, IsMap}
-use Rattle.live_law.proofs.Changes.{tree_stays}
-use Rattle.live_law.proofs.Writes.{current_at, its_own, home_locked, freed, goes_by}
+use Rattle.live_nodes.specs.Levels.{Shape, Spot}
+use Rattle.live_nodes.specs.Views.{View, view_of, locked}
+use Rattle.live_nodes.specs.Tree.{Plan, HasPrefix, HasValue, IsUnder, IsCurrent, IsLocked, IsMap}
+use Rattle.live_nodes.proofs.Changes.{tree_stays}
+use Rattle.live_nodes.proofs.Writes.{current_at, its_own, home_locked, freed, goes_by}
 use Rattle.live_updates.specs.Takings.{taken, takings, removals}
 use Rattle.live_updates.specs.inner.Losses.{IsLeft, taking_of, TakesOut}
 use Rattle.live_updates.proofs.Ended.{legal-append, succeeds_by}

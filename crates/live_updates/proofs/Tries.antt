@@ -2,8 +2,8 @@
 use Rattle.std.proofs.Common.{◌≡◌, ◌⊎◌, inl, inr, ℕ, Bool, true, false, List, Option, Some, None, Result, Ok, Err, subst}
 use Rattle.share_rule.specs.History.{Entry}
 use Rattle.live_nodes.specs.Seats.{SeatView}
-use Rattle.live_law.specs.Views.{View}
-use Rattle.live_law.specs.Tree.{Answers}
+use Rattle.live_nodes.specs.Views.{View}
+use Rattle.live_nodes.specs.Tree.{Answers}
 use Rattle.live_growth.specs.declared.map.Refusal.{Refusal}
 use Rattle.live_updates.specs.inner.Updates.{Update}
 use Rattle.live_updates.specs.ClosureEntries.{inserted_with}

@@ -9,8 +9,8 @@ use Rattle.live_nodes.specs.Nodes.{Content}
 use Rattle.live_nodes.specs.Seats.{Place, SeatView, IsIn}
 use Rattle.live_layout.specs.Encodes.{Encodes, IsBelow, counted, most, with_child}
 use Rattle.live_layout.proofs.StandLaws.{encodes-counted}
-use Rattle.live_law.specs.Levels.{digit, Spot}
-use Rattle.live_law.specs.Views.{View}
+use Rattle.live_nodes.specs.Levels.{digit, Spot}
+use Rattle.live_nodes.specs.Views.{View}
 use Rattle.live_reads.specs.Paths.{Keeps}
 use Rattle.live_growth.specs.Holds.{HasRest}
 use Rattle.live_growth.proofs.Pairs.{change_done, at_result}

@@ -12,15 +12,15 @@ use Rattle.live_nodes.proofs.Frames.{each_map, put_at, put_here, put_else}
 use Rattle.live_nodes.specs.Nodes.{Content, at, Node, node, node_at}
 use Rattle.live_nodes.specs.Acts as acts
 use Rattle.live_layout.specs.Encodes.{words_of, Encodes, IsBelow as IsChild, with_child}
-use Rattle.live_law.specs.Levels.{digit, Shape, name_of, bytes_above, Spot}
-use Rattle.live_law.specs.Views.{View, view_of, Watch, Own, locked, detached, root_word}
-use Rattle.live_law.specs.Tree.{Plan, home_of, IsFree, LeadsTo, IsUnder, IsHouse, Skips, IsCurrent, NamesRoot, IsSpot, IsMet, IsBound, NoLater, IsWatched, IsLocked, IsOwn, AreAlive, IsTree, IsMap}
-use Rattle.live_law.proofs.Plans.{bytes_above-suc, bytes_above-own, descends, same_name, digit-low}
-use Rattle.live_law.proofs.Changes.{with_map, no_later, not_bound, nodes_stay, settled_stays, is_here, is_else, low_stays}
-use Rattle.live_law.proofs.Makes.{current_alike}
-use Rattle.live_law.proofs.Writes.{current_at, its_own}
-use Rattle.live_law.proofs.Links.{le_or}
-use Rattle.live_law.proofs.Joins.{HadWord, Spells}
+use Rattle.live_nodes.specs.Levels.{digit, Shape, name_of, bytes_above, Spot}
+use Rattle.live_nodes.specs.Views.{View, view_of, Watch, Own, locked, detached, root_word}
+use Rattle.live_nodes.specs.Tree.{Plan, home_of, IsFree, LeadsTo, IsUnder, IsHouse, Skips, IsCurrent, NamesRoot, IsSpot, IsMet, IsBound, NoLater, IsWatched, IsLocked, IsOwn, AreAlive, IsTree, IsMap}
+use Rattle.live_nodes.proofs.Plans.{bytes_above-suc, bytes_above-own, descends, same_name, digit-low}
+use Rattle.live_nodes.proofs.Changes.{with_map, no_later, not_bound, nodes_stay, settled_stays, is_here, is_else, low_stays}
+use Rattle.live_nodes.proofs.Makes.{current_alike}
+use Rattle.live_nodes.proofs.Writes.{current_at, its_own}
+use Rattle.live_nodes.proofs.Links.{le_or}
+use Rattle.live_nodes.proofs.Joins.{HadWord, Spells}
 use Rattle.live_updates.proofs.Ordered.{encodes_rise}
 use Rattle.live_updates.specs.Two.{HasNone}
 use Rattle.live_updates.specs.Unlinks.{left_out, Unlinks}

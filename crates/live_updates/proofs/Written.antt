@@ -7,8 +7,8 @@ use Rattle.spec_map.specs.Map.{lookup}
 use Rattle.spec_map.proofs.ByteMapLaws.{length-from_Rises}
 use Rattle.live_nodes.specs.Nodes.{Content}
 use Rattle.live_layout.specs.Encodes.{counted, most, HasChildren, IsCounted, Encodes, with_child}
-use Rattle.live_law.specs.Levels.{digit}
-use Rattle.live_law.specs.Tree.{HasValue}
+use Rattle.live_nodes.specs.Levels.{digit}
+use Rattle.live_nodes.specs.Tree.{HasValue}
 use Rattle.live_updates.specs.declared.leaf.Missed.{Missed}
 use Rattle.live_updates.specs.inner.Updates.{Update, child_for, IsSet}
 

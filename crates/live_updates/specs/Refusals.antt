@@ -1,7 +1,7 @@
 -- WHY A CALL WAS NOT MADE.
 use Rattle.std.specs.Prelude.{◌≡◌, ℕ, None}
-use Rattle.live_law.specs.Views.{ask, got}
-use Rattle.live_law.specs.Known.{Known, MadeCall}
+use Rattle.live_nodes.specs.Views.{ask, got}
+use Rattle.live_nodes.specs.Known.{Known, MadeCall}
 use Rattle.live_growth.specs.declared.map.Refusal.{Refusal}
 use Rattle.live_growth.specs.declared.map.Refusal.TheVariants as refusals
 

@@ -3,8 +3,8 @@ use Rattle.std.specs.Prelude.{◌≡◌, ℕ, ◌<◌, ◌≤◌, nat_eq, List, 
 use Rattle.spec_map.specs.Map.{Pairs, lookup, Rises}
 use Rattle.share_rule.specs.History.{Entry, IsHistory}
 use Rattle.share_rule.specs.inner.Rule.{HasSeen}
-use Rattle.live_law.specs.Begun.{began}
-use Rattle.live_law.specs.Known.{Known}
+use Rattle.live_nodes.specs.Begun.{began}
+use Rattle.live_nodes.specs.Known.{Known}
 use Rattle.live_updates.specs.Entries.{swapped}
 
 -- the removal of a pair

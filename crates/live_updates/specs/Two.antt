@@ -5,8 +5,8 @@ use Rattle.word_book.specs.Book.{Book, Name}
 use Rattle.live_nodes.specs.Nodes.{Content}
 use Rattle.live_nodes.specs.Seats.{SeatView}
 use Rattle.live_layout.specs.Encodes.{Encodes}
-use Rattle.live_law.specs.Levels.{Spot}
-use Rattle.live_law.specs.Views.{View}
+use Rattle.live_nodes.specs.Levels.{Spot}
+use Rattle.live_nodes.specs.Views.{View}
 use Rattle.live_growth.specs.Two.{LeadsTwo}
 use Rattle.live_reads.specs.declared.descend.Position.{Position}
 

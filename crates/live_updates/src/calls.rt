@@ -1,7 +1,7 @@
 //! Removals and exchanges.
 ghost use Rattle.std.specs.Prelude.{◌≡◌, IfOk, IfSome, OnErr};
 ghost use Rattle.std.specs.Option.{option_map};
-ghost use Rattle.live_law.specs.Known.{MadeCall};
+ghost use Rattle.live_nodes.specs.Known.{MadeCall};
 ghost use Rattle.live_growth.specs.Calls.{IsReady};
 ghost use Rattle.live_updates.specs.Entries.{removed, swapped};
 ghost use Rattle.live_updates.specs.inner.Lookups.{swap_of, EndsBy};
@@ -31,9 +31,10 @@ impl Swaps for Brand {
 fn remove_once(nodes: &Nodes, key: u64, room: &mut Room, seat: &mut Seat) -> Option<Option<u64>>
     requires book { seat.old.book ≡ nodes.now }
     requires ready { IsReady seat.old.view room.old }
-    ensures told { (seat.new.book ≡ seat.old.book) × (seat.new.id ≡ seat.old.id)
-        × IsReady seat.new.view room.new
-        × EndsBy seat.old.id (option_map (removed seat.old.id key) result)
+    ensures book { seat.new.book ≡ seat.old.book }
+    ensures id { seat.new.id ≡ seat.old.id }
+    ensures ready { IsReady seat.new.view room.new }
+    ensures ends { EndsBy seat.old.id (option_map (removed seat.old.id key) result)
         seat.old.view seat.new.view }
 {
     match seek::<Brand>(nodes, key, &mut room.last, seat)? {
@@ -59,9 +60,10 @@ fn exchange_once<X: Swaps>(
     requires book { seat.old.book ≡ nodes.now }
     requires swap { X.swap ≡ swap_of seat.old.id key old new }
     requires ready { IsReady seat.old.view room.old }
-    ensures told { (seat.new.book ≡ seat.old.book) × (seat.new.id ≡ seat.old.id)
-        × IsReady seat.new.view room.new
-        × EndsBy seat.old.id (option_map (swapped seat.old.id key old new) result)
+    ensures book { seat.new.book ≡ seat.old.book }
+    ensures id { seat.new.id ≡ seat.old.id }
+    ensures ready { IsReady seat.new.view room.new }
+    ensures ends { EndsBy seat.old.id (option_map (swapped seat.old.id key old new) result)
         seat.old.view seat.new.view }
     ensures stored { IfSome result (λ answer. IfOk answer (λ stored. stored ≡ new)) }
 {

@@ -8,9 +8,9 @@ ghost use Rattle.live_updates.specs.Two.{PartsTwo};
 use crate::law::Unlink;
 use crate::shrink_node::{Fill, fill_of};
 use live_growth::two::{Two, lock_two, unlock_two};
-use live_law::law::{MapLaw, MapView, Same};
 use live_layout::change::take;
 use live_layout::form::form_below;
+use live_nodes::map_law::{MapLaw, MapView, Same};
 use live_nodes::node;
 use live_nodes::rows::LockedWords;
 use live_reads::descend::Position;
@@ -44,9 +44,10 @@ fn part(
         × (position.level ≤ 8) }
     requires parts { PartsTwo seat.old.view seat.old.book words.now words_above.now
         two.free two.free_above position key }
-    ensures told { (seat.new.book ≡ seat.old.book) × (seat.new.id ≡ seat.old.id)
-        × HasRest seat.old.view seat.new.view
-        × (seat.new.view.client.seen ≡ seat.old.view.client.seen) }
+    ensures book { seat.new.book ≡ seat.old.book }
+    ensures id { seat.new.id ≡ seat.old.id }
+    ensures rest { HasRest seat.old.view seat.new.view }
+    ensures seen { seat.new.view.client.seen ≡ seat.old.view.client.seen }
 {
     let form = form_below(position.above);
     let held: LockedWords<'_, MapView, MapLaw, 1> = LockedWords { words: words_above };
@@ -63,9 +64,10 @@ pub fn detach(nodes: &Nodes, position: Position, key: u64, seat: &mut Seat) -> R
     requires position { KnowsPosition seat.old.view key position }
     requires below { position.height < 8 }
     requires rests { (seat.old.view.client.own ≡ []) × (seat.old.view.holds ≡ []) }
-    ensures told { (seat.new.book ≡ seat.old.book) × (seat.new.id ≡ seat.old.id)
-        × Keeps seat.old.view seat.new.view
-        × (seat.new.view.client.seen ≡ seat.old.view.client.seen) }
+    ensures book { seat.new.book ≡ seat.old.book }
+    ensures id { seat.new.id ≡ seat.old.id }
+    ensures keeps { Keeps seat.old.view seat.new.view }
+    ensures seen { seat.new.view.client.seen ≡ seat.old.view.client.seen }
     ensures named { IfOk result (λ taken. taken.name ≡ position.name) }
 {
     let Some(words_above) = words_at(nodes, position.above) else {

@@ -1,6 +1,6 @@
 //! What is learnt where a node is taken out of the map.
 
-use live_law::law::MapView;
+use live_nodes::map_law::MapView;
 use live_nodes::plays::OnLock;
 
 /// A node is unlocked, and leads no more to one without children.

@@ -13,11 +13,11 @@ use crate::shrink_node::{Fill, fill_of, shrink_on_path};
 use crate::tidy::tidy_from;
 use live_growth::held::{lock_open, unlock_same};
 use live_growth::link::Room;
-use live_law::law::{MapLaw, MapView};
 use live_layout::change::{change, is_full, put, take};
 use live_layout::form::{form_below, words_in};
 use live_layout::search::find;
 use live_layout::words::{AsReadWords, WriteWords};
+use live_nodes::map_law::{MapLaw, MapView};
 use live_nodes::node;
 use live_nodes::plays::OnLock;
 use live_nodes::rows::LockedWords;
@@ -200,9 +200,10 @@ fn update_leaf<U: Updates>(
     requires legal { IsUpdate U.update }
     requires open { IsLeafWith seat.old.view seat.old.book key leaf old }
     requires rests { (seat.old.view.client.own ≡ []) × (seat.old.view.holds ≡ []) }
-    ensures told { (seat.new.book ≡ seat.old.book) × (seat.new.id ≡ seat.old.id)
-        × HasRest seat.old.view seat.new.view
-        × Updated U.update (missed_by result) seat.old.view seat.new.view }
+    ensures book { seat.new.book ≡ seat.old.book }
+    ensures id { seat.new.id ≡ seat.old.id }
+    ensures rest { HasRest seat.old.view seat.new.view }
+    ensures updated { Updated U.update (missed_by result) seat.old.view seat.new.view }
 {
     let End { position, here, .. } = leaf;
     let (words, name) = (here.words, position.name);
@@ -234,9 +235,10 @@ pub fn update_here<U: Updates>(
     requires legal { IsUpdate U.update }
     requires open { IsLeafWith seat.old.view seat.old.book key leaf old }
     requires rests { (seat.old.view.client.own ≡ []) × (seat.old.view.holds ≡ []) }
-    ensures told { (seat.new.book ≡ seat.old.book) × (seat.new.id ≡ seat.old.id)
-        × HasRest seat.old.view seat.new.view
-        × Updated U.update result seat.old.view seat.new.view }
+    ensures book { seat.new.book ≡ seat.old.book }
+    ensures id { seat.new.id ≡ seat.old.id }
+    ensures rest { HasRest seat.old.view seat.new.view }
+    ensures updated { Updated U.update result seat.old.view seat.new.view }
 {
     match update_leaf::<U>(leaf, key, old, new, seat) {
         Ok(_) => None,
@@ -261,9 +263,10 @@ pub fn exchange_here<U: Updates>(
     requires legal { IsUpdate U.update }
     requires ready { IsReady seat.old.view room.old }
     requires open { IsLeafWith seat.old.view seat.old.book key leaf old }
-    ensures told { (seat.new.book ≡ seat.old.book) × (seat.new.id ≡ seat.old.id)
-        × IsReady seat.new.view room.new
-        × Updated U.update result seat.old.view seat.new.view }
+    ensures book { seat.new.book ≡ seat.old.book }
+    ensures id { seat.new.id ≡ seat.old.id }
+    ensures ready { IsReady seat.new.view room.new }
+    ensures updated { Updated U.update result seat.old.view seat.new.view }
 {
     match update_leaf::<U>(leaf, key, old, new, seat) {
         Ok(Fill::Empty) => {

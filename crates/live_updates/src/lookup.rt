@@ -4,9 +4,9 @@ ghost use Rattle.live_reads.specs.Paths.{KnowsRootWord, Sights, IsOpen, Keeps};
 ghost use Rattle.live_reads.specs.Positions.{KnowsLast};
 ghost use Rattle.live_updates.specs.inner.Lookups.{IsLookup, MaySight, Found, Lacks, Sought, IsOpenWith};
 
-use live_law::law::{MapLaw, MapView};
 use live_layout::form::form_below;
 use live_layout::search::find;
+use live_nodes::map_law::{MapLaw, MapView};
 use live_nodes::node;
 use live_nodes::plays::OnCheck;
 use live_nodes::rows::SharedWords;
@@ -59,9 +59,10 @@ pub fn ends_in<Q: Lookups>(
     requires asks { (Q.lookup.key ≡ key) × (Q.lookup.caller ≡ seat.old.id) }
     requires legal { IsLookup Q.lookup }
     requires open { IsOpen seat.old.view seat.old.book here.words.now here.taken name key 1 }
-    ensures told { (seat.new.book ≡ seat.old.book) × (seat.new.id ≡ seat.old.id)
-        × Keeps seat.old.view seat.new.view
-        × Found Q.lookup result seat.old.view seat.new.view }
+    ensures book { seat.new.book ≡ seat.old.book }
+    ensures id { seat.new.id ≡ seat.old.id }
+    ensures keeps { Keeps seat.old.view seat.new.view }
+    ensures found { Found Q.lookup result seat.old.view seat.new.view }
     ensures still { let at = here.entry in IfSome result
         (IsOpenWith seat.new.view seat.new.book at.words.now at.taken name key) }
 {
@@ -89,9 +90,10 @@ fn has_no_child<Q: Lookups>(
     requires legal { IsLookup Q.lookup }
     requires open { IsOpen seat.old.view seat.old.book here.words.now here.taken name key height }
     requires height { (2 ≤ height) × (height ≤ 8) }
-    ensures told { (seat.new.book ≡ seat.old.book) × (seat.new.id ≡ seat.old.id)
-        × Keeps seat.old.view seat.new.view
-        × Lacks Q.lookup result seat.old.view seat.new.view }
+    ensures book { seat.new.book ≡ seat.old.book }
+    ensures id { seat.new.id ≡ seat.old.id }
+    ensures keeps { Keeps seat.old.view seat.new.view }
+    ensures lacks { Lacks Q.lookup result seat.old.view seat.new.view }
 {
     let Opened { words, taken } = here;
     let form = form_below(name);
@@ -120,9 +122,10 @@ fn leads_aside<Q: Lookups>(
     requires open { IsOpen seat.old.view seat.old.book here.words.now here.taken name key height }
     requires height { (2 ≤ height) × (height ≤ 8) }
     requires below { Sights seat.old.view below }
-    ensures told { (seat.new.book ≡ seat.old.book) × (seat.new.id ≡ seat.old.id)
-        × Keeps seat.old.view seat.new.view
-        × Lacks Q.lookup result seat.old.view seat.new.view }
+    ensures book { seat.new.book ≡ seat.old.book }
+    ensures id { seat.new.id ≡ seat.old.id }
+    ensures keeps { Keeps seat.old.view seat.new.view }
+    ensures lacks { Lacks Q.lookup result seat.old.view seat.new.view }
 {
     let Some(_) = watch::<Brand>(nodes, here, name, height, below, key, seat) else {
         return false;
@@ -146,9 +149,10 @@ pub fn is_absent<Q: Lookups>(
     requires sighted { Sights seat.old.view name }
     requires height { (2 ≤ height) × (height ≤ 8) }
     requires below { MaySight seat.old.view below }
-    ensures told { (seat.new.book ≡ seat.old.book) × (seat.new.id ≡ seat.old.id)
-        × Keeps seat.old.view seat.new.view
-        × Lacks Q.lookup result seat.old.view seat.new.view }
+    ensures book { seat.new.book ≡ seat.old.book }
+    ensures id { seat.new.id ≡ seat.old.id }
+    ensures keeps { Keeps seat.old.view seat.new.view }
+    ensures lacks { Lacks Q.lookup result seat.old.view seat.new.view }
 {
     let Some(here) = enter(nodes, name, height, key, seat) else {
         return false;
@@ -174,9 +178,10 @@ fn absent_at<'a, Q: Lookups>(
     requires sighted { Sights seat.old.view name }
     requires height { (2 ≤ height) × (height ≤ 8) }
     requires below { MaySight seat.old.view below }
-    ensures told { (seat.new.book ≡ seat.old.book) × (seat.new.id ≡ seat.old.id)
-        × Keeps seat.old.view seat.new.view
-        × Sought Q.lookup seat.new.book result seat.old.view seat.new.view }
+    ensures book { seat.new.book ≡ seat.old.book }
+    ensures id { seat.new.id ≡ seat.old.id }
+    ensures keeps { Keeps seat.old.view seat.new.view }
+    ensures sought { Sought Q.lookup seat.new.book result seat.old.view seat.new.view }
 {
     if is_absent::<Q>(nodes, name, height, below, key, seat) {
         return Some(Site::Absent);
@@ -198,9 +203,10 @@ pub fn seek<'a, Q: Lookups>(
     requires legal { IsLookup Q.lookup }
     requires root_word { KnowsRootWord seat.old.view }
     requires last { KnowsLast seat.old.view last.old }
-    ensures told { (seat.new.book ≡ seat.old.book) × (seat.new.id ≡ seat.old.id)
-        × Keeps seat.old.view seat.new.view
-        × Sought Q.lookup seat.new.book result seat.old.view seat.new.view }
+    ensures book { seat.new.book ≡ seat.old.book }
+    ensures id { seat.new.id ≡ seat.old.id }
+    ensures keeps { Keeps seat.old.view seat.new.view }
+    ensures sought { Sought Q.lookup seat.new.book result seat.old.view seat.new.view }
     ensures last { KnowsLast seat.new.view last.new }
 {
     let end = descend_from(nodes, *last, key, seat)?;

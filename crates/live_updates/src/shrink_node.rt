@@ -4,7 +4,7 @@ ghost use Rattle.node_base.specs.Form.{limit, few_in};
 ghost use Rattle.live_layout.specs.Words.{Looks};
 ghost use Rattle.live_layout.specs.Encodes.{words_of, counted};
 ghost use Rattle.live_nodes.specs.Seats.{SeatView};
-ghost use Rattle.live_law.specs.Views.{View};
+ghost use Rattle.live_nodes.specs.Views.{View};
 ghost use Rattle.live_reads.specs.Paths.{Sights};
 ghost use Rattle.live_growth.specs.Calls.{IsReady};
 ghost use Rattle.live_growth.specs.Rooms.{HasGrown};
@@ -17,11 +17,11 @@ use live_growth::held::reclaim;
 use live_growth::link::Room;
 use live_growth::replace::{Reclaimed, Resizes, replace};
 use live_growth::two::{lock_two, unlock_two};
-use live_law::law::{Asks, MapLaw, MapView};
 use live_layout::fill::shrink;
 use live_layout::form::{form_below, place_of, room_of, smaller_of};
 use live_layout::list;
 use live_layout::words::WriteWords;
+use live_nodes::map_law::{Asks, MapLaw, MapView};
 use live_nodes::rows::LockedWords;
 use live_reads::descend::{End, Position, descend};
 use live_reads::path::{Nodes, Seat, words_at};
@@ -124,9 +124,10 @@ fn shrink_node<A: Asks>(
     requires below { position.height < 8 }
     requires rests { (seat.old.view.client.own ≡ []) × (seat.old.view.holds ≡ []) }
     requires spare { Sights seat.old.view spare }
-    ensures told { (seat.new.book ≡ seat.old.book) × (seat.new.id ≡ seat.old.id)
-        × HasGrown seat.old.view seat.new.view
-        × (seat.new.view.room ≡ seat.old.view.room) }
+    ensures book { seat.new.book ≡ seat.old.book }
+    ensures id { seat.new.id ≡ seat.old.id }
+    ensures grown { HasGrown seat.old.view seat.new.view }
+    ensures room { seat.new.view.room ≡ seat.old.view.room }
     ensures free_nodes { (v : SeatView View) → HasFreeNodes v free_nodes.old
         → HasFreeNodes v free_nodes.new }
 {
@@ -174,9 +175,10 @@ fn shrink_end(nodes: &Nodes, name: u64, spare: u64, key: u64, room: &mut Room, s
     requires book { seat.old.book ≡ nodes.now }
     requires ready { IsReady seat.old.view room.old }
     requires spare { Sights seat.old.view spare }
-    ensures told { (seat.new.book ≡ seat.old.book) × (seat.new.id ≡ seat.old.id)
-        × IsReady seat.new.view room.new
-        × (seat.new.view.client.seen ≡ seat.old.view.client.seen) }
+    ensures book { seat.new.book ≡ seat.old.book }
+    ensures id { seat.new.id ≡ seat.old.id }
+    ensures ready { IsReady seat.new.view room.new }
+    ensures seen { seat.new.view.client.seen ≡ seat.old.view.client.seen }
 {
     let Some(
         End {
@@ -211,9 +213,10 @@ pub fn shrink_on_path(
 )
     requires book { seat.old.book ≡ nodes.now }
     requires ready { IsReady seat.old.view room.old }
-    ensures told { (seat.new.book ≡ seat.old.book) × (seat.new.id ≡ seat.old.id)
-        × IsReady seat.new.view room.new
-        × (seat.new.view.client.seen ≡ seat.old.view.client.seen) }
+    ensures book { seat.new.book ≡ seat.old.book }
+    ensures id { seat.new.id ≡ seat.old.id }
+    ensures ready { IsReady seat.new.view room.new }
+    ensures seen { seat.new.view.client.seen ≡ seat.old.view.client.seen }
 {
     if fill != Fill::Few {
         return;

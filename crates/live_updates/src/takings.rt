@@ -3,7 +3,7 @@ ghost use Rattle.std.specs.Prelude.{◌≡◌, ℕ, ◌+◌, ◌*◌, ◌%◌, �
 ghost use Rattle.spec_node.specs.TableNode.{TableNode};
 ghost use Rattle.live_layout.specs.Words.{Stays};
 ghost use Rattle.live_layout.specs.Encodes.{words_of, Encodes, empty_node};
-ghost use Rattle.live_law.specs.Levels.{up};
+ghost use Rattle.live_nodes.specs.Levels.{up};
 ghost use Rattle.live_reads.specs.Positions.{KnowsPosition};
 ghost use Rattle.live_growth.specs.Holds.{HasRest};
 ghost use Rattle.live_growth.specs.Calls.{IsReady};
@@ -16,11 +16,11 @@ use crate::tidy::tidy_from;
 use live_growth::held::{lock_open, unlock_same};
 use live_growth::link::Room;
 use live_growth::map::{Congee, Guard};
-use live_law::law::{MapLaw, MapView};
 use live_layout::form::{form_below, room_of, words_in};
 use live_layout::page::{Part, fill};
 use live_layout::words::{AsReadWords, WriteWords};
 use live_layout::{change, list, places};
+use live_nodes::map_law::{MapLaw, MapView};
 use live_nodes::node;
 use live_nodes::plays::OnLock;
 use live_nodes::rows::LockedWords;
@@ -122,9 +122,10 @@ fn unlock_taken<T: Takings>(
     requires taking { T.taking ≡ part_taking seat.old.id part pairs.now }
     requires word { (free % 4 ≡ 0) × (free < 2 ^ 62) }
     requires holds { HoldsTaken seat.old.view seat.old.book words.now free part pairs.now }
-    ensures told { (seat.new.book ≡ seat.old.book) × (seat.new.id ≡ seat.old.id)
-        × HasRest seat.old.view seat.new.view
-        × SeesTaken (part_taking seat.old.id part pairs.now) seat.old.view seat.new.view }
+    ensures book { seat.new.book ≡ seat.old.book }
+    ensures id { seat.new.id ≡ seat.old.id }
+    ensures rest { HasRest seat.old.view seat.new.view }
+    ensures takes { SeesTaken (part_taking seat.old.id part pairs.now) seat.old.view seat.new.view }
 {
     let (_, _) = (part, pairs);
     node::unlock::<MapView, MapLaw, TakeOut<T>>(&words[0], free, seat);
@@ -144,8 +145,9 @@ fn take_pairs(
     requires part { (part.first ≤ part.last) × (part.base + 255 < 2 ^ 64)
         × (part.base ≡ 256 * up 1 key) }
     requires some_room { 0 < length buffer.old }
-    ensures told { (seat.new.book ≡ seat.old.book) × (seat.new.id ≡ seat.old.id)
-        × HasRest seat.old.view seat.new.view }
+    ensures book { seat.new.book ≡ seat.old.book }
+    ensures id { seat.new.id ≡ seat.old.id }
+    ensures rest { HasRest seat.old.view seat.new.view }
     ensures none { IfNone result (seat.new.view.client.seen ≡ seat.old.view.client.seen) }
     ensures count { IfSome result (λ out. (1 ≤ out.count) × (out.count ≤ length buffer.old)) }
     ensures taken { IfSome result (λ out. (to : ℕ) × (to ≤ part.base + (part.last + 1))
@@ -209,9 +211,10 @@ fn tidy_leaf(
     requires book { seat.old.book ≡ nodes.now }
     requires ready { IsReady seat.old.view room.old }
     requires position { KnowsPosition seat.old.view key position }
-    ensures told { (seat.new.book ≡ seat.old.book) × (seat.new.id ≡ seat.old.id)
-        × IsReady seat.new.view room.new
-        × (seat.new.view.client.seen ≡ seat.old.view.client.seen) }
+    ensures book { seat.new.book ≡ seat.old.book }
+    ensures id { seat.new.id ≡ seat.old.id }
+    ensures ready { IsReady seat.new.view room.new }
+    ensures seen { seat.new.view.client.seen ≡ seat.old.view.client.seen }
 {
     if left == Fill::Empty {
         tidy_from(nodes, position, key, room, seat);
@@ -233,8 +236,9 @@ fn take_once(
     requires ready { IsReady seat.old.view room.old }
     requires order { key ≤ last }
     requires some_room { 0 < length buffer.old }
-    ensures told { (seat.new.book ≡ seat.old.book) × (seat.new.id ≡ seat.old.id)
-        × IsReady seat.new.view room.new }
+    ensures book { seat.new.book ≡ seat.old.book }
+    ensures id { seat.new.id ≡ seat.old.id }
+    ensures ready { IsReady seat.new.view room.new }
     ensures few { result ≤ length buffer.old }
     ensures none { result ≡ 0 → seat.new.view.client.seen ≡ seat.old.view.client.seen }
     ensures taken { 1 ≤ result → (to : ℕ) × (to ≤ last + 1)

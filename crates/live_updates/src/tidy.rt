@@ -15,9 +15,10 @@ pub fn detach_one(nodes: &Nodes, key: u64, seat: &mut Seat) -> Result<Taken, Sta
     requires book { seat.old.book ≡ nodes.now }
     requires root_word { KnowsRootWord seat.old.view }
     requires rests { (seat.old.view.client.own ≡ []) × (seat.old.view.holds ≡ []) }
-    ensures told { (seat.new.book ≡ seat.old.book) × (seat.new.id ≡ seat.old.id)
-        × Keeps seat.old.view seat.new.view
-        × (seat.new.view.client.seen ≡ seat.old.view.client.seen) }
+    ensures book { seat.new.book ≡ seat.old.book }
+    ensures id { seat.new.id ≡ seat.old.id }
+    ensures keeps { Keeps seat.old.view seat.new.view }
+    ensures seen { seat.new.view.client.seen ≡ seat.old.view.client.seen }
     ensures named { IfOk result (λ taken. Sights seat.new.view taken.name) }
 {
     let Some(
@@ -42,9 +43,10 @@ fn keep_taken(nodes: &Nodes, taken: Taken, key: u64, room: &mut Room, seat: &mut
     requires book { seat.old.book ≡ nodes.now }
     requires ready { IsReady seat.old.view room.old }
     requires sighted { Sights seat.old.view taken.name }
-    ensures told { (seat.new.book ≡ seat.old.book) × (seat.new.id ≡ seat.old.id)
-        × IsReady seat.new.view room.new
-        × (seat.new.view.client.seen ≡ seat.old.view.client.seen) }
+    ensures book { seat.new.book ≡ seat.old.book }
+    ensures id { seat.new.id ≡ seat.old.id }
+    ensures ready { IsReady seat.new.view room.new }
+    ensures seen { seat.new.view.client.seen ≡ seat.old.view.client.seen }
 {
     room.is_changed = true;
     let _ = room.spare.keep(taken.name);
@@ -61,9 +63,10 @@ fn keep_taken(nodes: &Nodes, taken: Taken, key: u64, room: &mut Room, seat: &mut
 pub fn tidy(nodes: &Nodes, key: u64, room: &mut Room, seat: &mut Seat)
     requires book { seat.old.book ≡ nodes.now }
     requires ready { IsReady seat.old.view room.old }
-    ensures told { (seat.new.book ≡ seat.old.book) × (seat.new.id ≡ seat.old.id)
-        × IsReady seat.new.view room.new
-        × (seat.new.view.client.seen ≡ seat.old.view.client.seen) }
+    ensures book { seat.new.book ≡ seat.old.book }
+    ensures id { seat.new.id ≡ seat.old.id }
+    ensures ready { IsReady seat.new.view room.new }
+    ensures seen { seat.new.view.client.seen ≡ seat.old.view.client.seen }
 {
     for _ in 0..7 {
         if room.spare.more != 0 {
@@ -89,9 +92,10 @@ fn take_out(nodes: &Nodes, position: Position, key: u64, room: &mut Room, seat: 
     requires book { seat.old.book ≡ nodes.now }
     requires ready { IsReady seat.old.view room.old }
     requires position { KnowsPosition seat.old.view key position }
-    ensures told { (seat.new.book ≡ seat.old.book) × (seat.new.id ≡ seat.old.id)
-        × IsReady seat.new.view room.new
-        × (seat.new.view.client.seen ≡ seat.old.view.client.seen) }
+    ensures book { seat.new.book ≡ seat.old.book }
+    ensures id { seat.new.id ≡ seat.old.id }
+    ensures ready { IsReady seat.new.view room.new }
+    ensures seen { seat.new.view.client.seen ≡ seat.old.view.client.seen }
 {
     if position.height >= 8 || position.level >= 8 || room.spare.more != 0 {
         return true;
@@ -108,9 +112,10 @@ pub fn tidy_from(nodes: &Nodes, position: Position, key: u64, room: &mut Room, s
     requires book { seat.old.book ≡ nodes.now }
     requires ready { IsReady seat.old.view room.old }
     requires position { KnowsPosition seat.old.view key position }
-    ensures told { (seat.new.book ≡ seat.old.book) × (seat.new.id ≡ seat.old.id)
-        × IsReady seat.new.view room.new
-        × (seat.new.view.client.seen ≡ seat.old.view.client.seen) }
+    ensures book { seat.new.book ≡ seat.old.book }
+    ensures id { seat.new.id ≡ seat.old.id }
+    ensures ready { IsReady seat.new.view room.new }
+    ensures seen { seat.new.view.client.seen ≡ seat.old.view.client.seen }
 {
     if take_out(nodes, position, key, room, seat) {
         tidy(nodes, key, room, seat);

@@ -76,7 +76,7 @@ impl<V, P: Rule<V>> Seat<V, P> {
         ensures first { (self.new.book ≡ self.old.book) × (self.new.id ≡ self.old.id) }
         ensures second { (other.new.book ≡ other.old.book) × (other.new.id ≡ other.old.id) }
         ensures differ { self.old.id ≢ other.old.id }
-        ensures told { M.then self.old.view other.old.view self.new.view other.new.view }
+        ensures view { M.then self.old.view other.old.view self.new.view other.new.view }
     {
         let _ = other;
     }

@@ -54,7 +54,7 @@ impl<V, P: Rule<V>> Word<V, P> {
         requires book { seat.old.book ≡ self.now.book }
         requires rule { Loads P.holds M.then seat.old.id seat.old.view self.now.key }
         ensures seat { (seat.new.book ≡ seat.old.book) × (seat.new.id ≡ seat.old.id) }
-        ensures told { M.then (reads self.now.key) seat.old.view result none_joined seat.new.view }
+        ensures view { M.then (reads self.now.key) seat.old.view result none_joined seat.new.view }
     {
         unsafe { raw::load::<Brand>(self as *const Self as *const u64, SeqCst) }
     }
@@ -64,7 +64,7 @@ impl<V, P: Rule<V>> Word<V, P> {
         requires book { seat.old.book ≡ self.now.book }
         requires rule { Stores P.holds M.then seat.old.id seat.old.view self.now.key new }
         ensures seat { (seat.new.book ≡ seat.old.book) × (seat.new.id ≡ seat.old.id) }
-        ensures told { M.then (writes self.now.key new) seat.old.view new none_joined seat.new.view }
+        ensures view { M.then (writes self.now.key new) seat.old.view new none_joined seat.new.view }
     {
         unsafe { raw::store::<Brand>(self as *const Self as *const u64, new, SeqCst) }
     }
@@ -80,7 +80,7 @@ impl<V, P: Rule<V>> Word<V, P> {
         requires rule { Exchanges P.holds M.then seat.old.id seat.old.view self.now.key old new }
         ensures seat { (seat.new.book ≡ seat.old.book) × (seat.new.id ≡ seat.old.id) }
         ensures pens { result.1.book ≡ seat.old.book }
-        ensures told { let asked = compares self.now.key old new
+        ensures view { let asked = compares self.now.key old new
             in let more = joined result.1.next result.1.left
             in M.then asked seat.old.view result.0 more seat.new.view }
     {

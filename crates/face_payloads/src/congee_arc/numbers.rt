@@ -1,6 +1,6 @@
 //! Calls by the keys' numbers, for those who have no keys: a number may be one that no key is written as.
 //!
-//! Tested in `test_live_slots`.
+//! Tested in `test_live_payloads`.
 
 ghost use Rattle.std.specs.Prelude.{◌≡◌, IfOk, map as each, option_copied};
 ghost use Rattle.spec_map.specs.Map.{lookup};

@@ -1,8 +1,8 @@
 -- A child of a node, as a reader finds it.
 use Rattle.std.specs.Prelude.{◌≡◌, ℕ, ◌<◌, ◌≤◌, Option, Some, None}
 use Rattle.live_nodes.specs.Seats.{SeatView}
-use Rattle.live_law.specs.Levels.{up, digit}
-use Rattle.live_law.specs.Views.{View}
+use Rattle.live_nodes.specs.Levels.{up, digit}
+use Rattle.live_nodes.specs.Views.{View}
 use Rattle.live_reads.specs.Paths.{Names}
 use Rattle.live_copies.specs.declared.children.Child.{Child}
 

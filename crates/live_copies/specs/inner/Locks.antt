@@ -8,9 +8,9 @@ use Rattle.live_nodes.specs.Nodes.{Content}
 use Rattle.live_nodes.specs.Seats.{Place, Hold, hold, SeatView, IsIn, Each}
 use Rattle.live_nodes.specs.Rows.{AreOf}
 use Rattle.live_layout.specs.Encodes.{words_of}
-use Rattle.live_law.specs.Levels.{up, Spot, spot, name_of, Covers, place_at}
-use Rattle.live_law.specs.Views.{View, Own, locked}
-use Rattle.live_law.specs.Tree.{IsApart}
+use Rattle.live_nodes.specs.Levels.{up, Spot, spot, name_of, Covers, place_at}
+use Rattle.live_nodes.specs.Views.{View, Own, locked}
+use Rattle.live_nodes.specs.Tree.{IsApart}
 use Rattle.live_copies.specs.declared.locks.Lock.{Lock}
 use Rattle.live_copies.specs.inner.Told.{IsContent, HasPairs}
 

@@ -4,8 +4,8 @@ use Rattle.node_base.specs.declared.base_node.NodeType.{NodeType}
 use Rattle.spec_node.specs.TableNode.{TableNode}
 use Rattle.spec_map.specs.Map.{Pairs, Rises, lookup}
 use Rattle.live_layout.specs.Encodes.{Encodes}
-use Rattle.live_law.specs.Levels.{Spot}
-use Rattle.live_law.specs.Views.{Own}
+use Rattle.live_nodes.specs.Levels.{Spot}
+use Rattle.live_nodes.specs.Views.{Own}
 use Rattle.live_copies.specs.inner.Told.{IsNoted, TellsNoted, Tells, first_of}
 
 -- the first key of a node that has this byte: the node's height is one more than h, and its upper bytes are t

@@ -6,8 +6,8 @@ use Rattle.spec_node.specs.declared.child.Child.TheVariants.{Payload, Node}
 use Rattle.live_nodes.specs.Nodes.{Content}
 use Rattle.live_nodes.specs.Seats.{IsIn}
 use Rattle.live_layout.specs.Encodes.{Encodes}
-use Rattle.live_law.specs.Levels.{digit, Shape, name_of, Covers, Spot}
-use Rattle.live_law.specs.Views.{Own, locked}
+use Rattle.live_nodes.specs.Levels.{digit, Shape, name_of, Covers, Spot}
+use Rattle.live_nodes.specs.Views.{Own, locked}
 
 -- There is no pair with a key of this node that has this byte.
 abbrev pub HasNoneUnder : Spot → Pairs ℕ → ℕ → Type 0

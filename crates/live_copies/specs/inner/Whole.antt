@@ -4,8 +4,8 @@ use Rattle.spec_map.specs.Map.{Pairs, lookup, Rises}
 use Rattle.share_rule.specs.History.{IsHistory}
 use Rattle.share_rule.specs.inner.Rule.{HasSeen}
 use Rattle.live_nodes.specs.Seats.{Place}
-use Rattle.live_law.specs.Levels.{Covers, Spot}
-use Rattle.live_law.specs.Views.{View, view_of}
+use Rattle.live_nodes.specs.Levels.{Covers, Spot}
+use Rattle.live_nodes.specs.Views.{View, view_of}
 use Rattle.live_copies.specs.inner.Told.{Tells}
 
 -- THE WHOLE HISTORY is seen, and the map that it leads to: what the locked nodes tell is so there.

@@ -1,7 +1,7 @@
 //! Calls that store what a closure returns.
 ghost use Rattle.std.specs.Prelude.{◌≡◌, IfOk, IfErr, IfSome, OnErr};
 ghost use Rattle.live_updates.specs.Refusals.{FoundNone, Refused};
-ghost use Rattle.live_law.specs.Known.{MadeCall};
+ghost use Rattle.live_nodes.specs.Known.{MadeCall};
 ghost use Rattle.live_updates.specs.Closures.{Reaches, EndsWithCall};
 ghost use Rattle.live_updates.specs.ClosureEntries.{computed_with};
 ghost use Rattle.live_faces.specs.Returned.{ReturnsInserted};

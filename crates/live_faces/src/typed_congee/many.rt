@@ -2,7 +2,7 @@
 //!
 //! Tested in `test_live_faces`.
 ghost use Rattle.std.specs.Prelude.{◌≡◌, IfErr, IsSomeAnd, OnOk, slice_get, take};
-ghost use Rattle.live_law.specs.Known.{Known};
+ghost use Rattle.live_nodes.specs.Known.{Known};
 ghost use Rattle.live_updates.specs.Refusals.{FoundNone};
 ghost use Rattle.live_faces.specs.Inserted.{HaveInserted};
 

@@ -2,8 +2,8 @@
 use Rattle.std.specs.Prelude.{◌≡◌, ℕ, List, [], ◌∷◌, is_none, Some}
 use Rattle.spec_map.specs.Map.{Pairs, lookup}
 use Rattle.congee_tree.specs.Bulk.{put_all}
-use Rattle.live_slots.specs.declared.log.LogEntry.{LogEntry}
-use Rattle.live_slots.specs.Tickets.{HasIssued}
+use Rattle.word_slots.specs.declared.log.LogEntry.{LogEntry}
+use Rattle.word_slots.specs.Tickets.{HasIssued}
 use Rattle.live_payloads.specs.Payloads.{IsPayloadOf}
 
 -- the map after insertions of these pairs

@@ -1,7 +1,7 @@
 -- PAGES in either direction.
 use Rattle.std.specs.Prelude.{ℕ, Bool, true, false}
 use Rattle.spec_map.specs.Map.{Pairs}
-use Rattle.live_law.specs.Known.{Known}
+use Rattle.live_nodes.specs.Known.{Known}
 use Rattle.live_scans.specs.Scans.{HasPage}
 use Rattle.live_scans.specs.Descents.{HasPageDown}
 

@@ -2,7 +2,7 @@
 //!
 //! A call looks the key up, calls the closure while nothing is locked, and then exchanges the payload by its ticket.
 //!
-//! Tested in `test_live_slots`.
+//! Tested in `test_live_payloads`.
 ghost use Rattle.std.specs.Prelude.{◌≡◌, ℕ, Option, None, Some, IfOk, IfErr, IfSome, IfNone, IsSomeAnd, OnErr, option_copied};
 ghost use Rattle.std.specs.Fn.{CalledAt};
 ghost use Rattle.live_growth.specs.declared.map.Refusal.TheVariants.{OutOfMemory as IsOutOfMemory};
@@ -15,11 +15,11 @@ use super::PayloadCongee;
 use crate::guard::PayloadGuard;
 use crossbeam_utils::Backoff;
 use live_growth::map::Refusal;
-use live_slots::lent::Lent;
-use live_slots::slots::Slots;
 use spec_map::traits::Word;
 use std::alloc::{AllocFailed, Global};
 use std::sync::Wait;
+use word_slots::lent::Lent;
+use word_slots::slots::Slots;
 
 // `None` with the lifetime of the slots.
 fn nothing<P: Drop>(_slots: &Slots<P>) -> Option<&P>

@@ -1,16 +1,16 @@
 //! Exchanges of the payload that a caller has lent.
 ghost use Rattle.std.specs.Prelude.{◌≡◌, ℕ, Option, Ok, Err, IfOk, IfErr, IfSome, OnOk};
-ghost use Rattle.live_slots.specs.Tickets.{IsNew};
+ghost use Rattle.word_slots.specs.Tickets.{IsNew};
 ghost use Rattle.live_payloads.specs.Payloads.{IsGuardOf, KnowsMore, IsPayloadOf, ExchangesPayload};
 
 use super::PayloadCongee;
 use crate::guard::PayloadGuard;
 use crossbeam_utils::Backoff;
 use live_growth::map::Refusal;
-use live_slots::lent::Lent;
 use spec_map::traits::Word;
 use std::alloc::{AllocFailed, Global};
 use std::sync::Wait;
+use word_slots::lent::Lent;
 
 impl<K: Word, P: Drop> PayloadCongee<K, P> {
     // Puts a payload into a slot, if there is one.

@@ -1,6 +1,6 @@
 //! `get_or_insert`: a payload for an absent key.
 //!
-//! Tested in `test_live_slots`.
+//! Tested in `test_live_payloads`.
 ghost use Rattle.std.specs.Prelude.{◌≡◌, ◌⊎◌, None, Some, IfOk, IfErr, IfSome, IfNone, OnErr};
 ghost use Rattle.live_growth.specs.declared.map.Refusal.TheVariants.{Busy as IsBusy, OutOfMemory as IsOutOfMemory};
 ghost use Rattle.live_updates.specs.Refusals.{FoundNone};
@@ -11,11 +11,11 @@ use super::PayloadCongee;
 use crate::guard::PayloadGuard;
 use crossbeam_utils::Backoff;
 use live_growth::map::Refusal;
-use live_slots::lent::Lent;
-use live_slots::log::agree;
 use spec_map::traits::Word;
 use std::alloc::{AllocFailed, Global};
 use std::sync::Wait;
+use word_slots::lent::Lent;
+use word_slots::log::agree;
 
 impl<K: Word, P: Drop> PayloadCongee<K, P> {
     // Stores a payload at an absent key, and returns it, lent. Else it comes back: `Refusal::Busy` also where the key was present.

@@ -1,6 +1,6 @@
 //! All keys of one moment.
 //!
-//! Tested in `test_live_slots`.
+//! Tested in `test_live_payloads`.
 ghost use Rattle.std.specs.Prelude.{IfOk, OnErr};
 ghost use Rattle.live_scans.specs.Scans.{GaveUp, HasWaited, Waits};
 ghost use Rattle.live_payloads.specs.Payloads.{IsGuardOf, KnowsMore};

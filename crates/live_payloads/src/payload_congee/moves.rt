@@ -3,11 +3,11 @@
 //! All memory is taken first, so that no payload is between the maps where memory is missing: then the map that was to be moved
 //! is as it was.
 //!
-//! Tested in `test_live_slots`.
+//! Tested in `test_live_payloads`.
 ghost use Rattle.std.specs.Prelude.{◌≡◌, IfOk, IfErr, OnErr};
 ghost use mathlib.Core.List.{IsPrefix};
 ghost use Rattle.live_scans.specs.Scans.{HasWaited, Waits};
-ghost use Rattle.live_slots.specs.Tickets.{HasIssued};
+ghost use Rattle.word_slots.specs.Tickets.{HasIssued};
 ghost use Rattle.live_payloads.specs.Payloads.{IsGuardOf, KnowsMore};
 ghost use Rattle.live_payloads.specs.Moves.{HasMovedOut, HasMovedIn};
 ghost use Rattle.live_payloads.specs.inner.Moves.{map_of, HaveSameKeys, ArePlaced, AreIssuedFor};
@@ -17,9 +17,6 @@ use crate::guard::PayloadGuard;
 use crossbeam_utils::Backoff;
 use face_payloads::congee_arc::PayloadCongee as Owned;
 use live_copies::moves::{copied, filled};
-use live_slots::lent::Lent;
-use live_slots::log::SeenLog;
-use live_slots::slots::{Lack, Slots};
 use spec_map::error::OOMError;
 use spec_map::payload::Payload;
 use spec_map::traits::Word;
@@ -27,6 +24,9 @@ use std::alloc::{AllocFailed, Global};
 use std::marker::PhantomData;
 use std::sync::Wait;
 use std::sync::atomic::AtomicU64;
+use word_slots::lent::Lent;
+use word_slots::log::SeenLog;
+use word_slots::slots::{Lack, Slots};
 
 // Puts a payload into a slot, and returns its ticket. Pauses where a slot is busy, and goes on.
 fn entered<R: Wait, P: Drop>(

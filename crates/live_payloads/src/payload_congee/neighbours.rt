@@ -3,7 +3,7 @@
 //! A search begins with an entry of its own in the history of tickets. Where the ticket that it found is retired by then, the call
 //! searches again.
 //!
-//! Tested in `test_live_slots`.
+//! Tested in `test_live_payloads`.
 ghost use Rattle.std.specs.Prelude.{◌≡◌, ◌+◌, ◌≤◌, ◌^◌, true, false, IfOk, IfSome, IfNone, OnErr};
 ghost use Rattle.live_scans.specs.Scans.{GaveUp};
 ghost use Rattle.live_payloads.specs.Payloads.{IsGuardOf, KnowsMore};
@@ -14,9 +14,9 @@ use crate::guard::PayloadGuard;
 use crossbeam_utils::Backoff;
 use live_growth::map::{Busy, TRIES};
 use live_scans::{floors, scans};
-use live_slots::lent::Lent;
 use spec_map::traits::Word;
 use std::sync::Wait;
+use word_slots::lent::Lent;
 
 impl<K: Word, P: Drop> PayloadCongee<K, P> {
     // The key and the ticket of the first pair with a key from `from` on, or, downwards, of the last one below it.

@@ -3,9 +3,9 @@ ghost use Rattle.std.specs.Prelude.{◌≡◌, Some, IfOk};
 ghost use Rattle.std.specs.Option.{option_map};
 ghost use Rattle.std.specs.Arc.{arc_value};
 
-use live_slots::lent::Lent;
 use std::alloc::AllocError;
 use std::sync::Arc;
+use word_slots::lent::Lent;
 
 /// A further owner of what the owner in a slot owns, which may outlive the map. `AllocError` if there are as many owners as can
 /// be counted.

@@ -1,6 +1,6 @@
 //! Pages of pairs, read while others write. A page has a ticket for each payload, and `lend` has the payload of a ticket.
 //!
-//! Tested in `test_live_slots`.
+//! Tested in `test_live_payloads`.
 ghost use Rattle.std.specs.Prelude.{◌≡◌, ◌+◌, ◌≤◌, true, false, length, take, IfOk, OnErr};
 ghost use Rattle.live_scans.specs.Scans.{GaveUp, HasPage, Waits};
 ghost use Rattle.live_scans.specs.Descents.{HasPageDown};

@@ -1,6 +1,6 @@
 //! The first pair or the last, which is removed.
 //!
-//! Tested in `test_live_slots`.
+//! Tested in `test_live_payloads`.
 ghost use Rattle.std.specs.Prelude.{◌≡◌, ◌^◌, true, false, IfSome};
 ghost use Rattle.live_payloads.specs.Payloads.{IsGuardOf, KnowsMore};
 ghost use Rattle.live_payloads.specs.Tries.{PopsPayload};
@@ -8,9 +8,9 @@ ghost use Rattle.live_payloads.specs.Tries.{PopsPayload};
 use super::PayloadCongee;
 use crate::guard::PayloadGuard;
 use live_pool::waits::popped;
-use live_slots::lent::Lent;
 use spec_map::traits::Word;
 use std::sync::Wait;
+use word_slots::lent::Lent;
 
 impl<K: Word, P: Drop> PayloadCongee<K, P> {
     // Removes the first pair or the last.

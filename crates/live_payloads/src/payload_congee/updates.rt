@@ -2,19 +2,19 @@
 ghost use Rattle.std.specs.Prelude.{◌≡◌, ◌⊎◌, ℕ, IfOk, IfErr, IfSome, OnErr};
 ghost use Rattle.live_updates.specs.Entries.{removed};
 ghost use Rattle.live_updates.specs.Refusals.{FoundNone, Refused};
-ghost use Rattle.live_slots.specs.Tickets.{HasIssued, IsNew};
+ghost use Rattle.word_slots.specs.Tickets.{HasIssued, IsNew};
 ghost use Rattle.live_payloads.specs.Payloads.{IsGuardOf, KnowsMore, IsLoanOf, FindsPayload, InsertsPayload};
 
 use super::PayloadCongee;
 use crate::guard::PayloadGuard;
 use crossbeam_utils::Backoff;
 use live_growth::map::{Busy, Refusal};
-use live_slots::lent::Lent;
-use live_slots::log::agree;
-use live_slots::slots::Lack;
 use spec_map::traits::Word;
 use std::alloc::{AllocFailed, Global};
 use std::sync::Wait;
+use word_slots::lent::Lent;
+use word_slots::log::agree;
+use word_slots::slots::Lack;
 
 impl<K: Word, P: Drop> PayloadCongee<K, P> {
     // Puts a payload into a slot, and returns its ticket.

@@ -1,7 +1,7 @@
 -- The pairs of a range are removed by parts: those of one leaf at once.
 use Rattle.std.specs.Prelude.{◌≡◌, ℕ, ◌+◌, true, [], ◌∷◌, Some, None}
 use Rattle.spec_map.specs.Map.{Pairs}
-use Rattle.live_law.specs.Known.{Known}
+use Rattle.live_nodes.specs.Known.{Known}
 use Rattle.live_pool.specs.Pops.{HasPopped}
 
 -- Pairs with keys from `low` on and below `high` were popped one after the other, each of the keys behind the one before.

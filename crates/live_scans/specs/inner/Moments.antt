@@ -6,9 +6,9 @@ use Rattle.spec_node.specs.declared.child.Child.TheVariants as below
 use Rattle.share_rule.specs.History.{Entry, StartsWith, entries_of, IsHistory, IsLegalHistory}
 use Rattle.live_layout.specs.Order.{IsFrom}
 use Rattle.live_nodes.specs.Seats.{Place, SeatView, IsIn}
-use Rattle.live_law.specs.Levels.{up, digit, name_of, Covers, Shape, Spot}
-use Rattle.live_law.specs.Views.{Watch, View, view_of}
-use Rattle.live_law.specs.Tree.{IsOfKind, IsOf}
+use Rattle.live_nodes.specs.Levels.{up, digit, name_of, Covers, Shape, Spot}
+use Rattle.live_nodes.specs.Views.{Watch, View, view_of}
+use Rattle.live_nodes.specs.Tree.{IsOfKind, IsOf}
 use Rattle.live_scans.specs.Scans.{HasRead}
 use Rattle.live_scans.specs.inner.Directions.{low_of, high_of, EndsLeaf}
 

@@ -9,9 +9,9 @@ use Rattle.live_nodes.specs.Plays.{read_of}
 use Rattle.live_nodes.specs.Rows.{AreOf, last_saw, unread}
 use Rattle.live_layout.specs.Encodes.{Encodes, IsWord}
 use Rattle.live_layout.specs.Order.{IsFrom, IsBefore, HasNearest}
-use Rattle.live_law.specs.Levels.{up, digit, Shape, Spot, name_of, Covers, place_at}
-use Rattle.live_law.specs.Views.{View, Watch}
-use Rattle.live_law.specs.Tree.{IsOf}
+use Rattle.live_nodes.specs.Levels.{up, digit, Shape, Spot, name_of, Covers, place_at}
+use Rattle.live_nodes.specs.Views.{View, Watch}
+use Rattle.live_nodes.specs.Tree.{IsOf}
 use Rattle.live_reads.specs.Mismatches.{first_number}
 use Rattle.live_reads.specs.Paths.{Names, Sights, HasOpened, IsOpen}
 use Rattle.live_scans.specs.inner.Directions.{EndsLeaf, BeginsLeaf}

@@ -3,7 +3,7 @@ use Rattle.std.specs.Prelude.{◌≡◌, ◌≢◌, ℕ, ◌+◌, ◌^◌, ◌<�
 use Rattle.spec_map.specs.Map.{Pairs}
 use Rattle.live_layout.specs.Order.{IsFrom}
 use Rattle.live_nodes.specs.Seats.{SeatView}
-use Rattle.live_law.specs.Views.{View}
+use Rattle.live_nodes.specs.Views.{View}
 use Rattle.live_scans.specs.inner.Directions.{low_of, high_of, EndsLeaf, ascending}
 use Rattle.live_scans.specs.inner.Moments.{Reads}
 

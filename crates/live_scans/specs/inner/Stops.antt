@@ -5,9 +5,9 @@ use Rattle.live_nodes.specs.Nodes.{Content}
 use Rattle.live_nodes.specs.Seats.{SeatView, Agree}
 use Rattle.live_nodes.specs.Rows.{AreOf}
 use Rattle.live_layout.specs.Words as cells
-use Rattle.live_law.specs.Levels.{Shape, place_at}
-use Rattle.live_law.specs.Tree.{IsOf}
-use Rattle.live_law.specs.Views.{View}
+use Rattle.live_nodes.specs.Levels.{Shape, place_at}
+use Rattle.live_nodes.specs.Tree.{IsOf}
+use Rattle.live_nodes.specs.Views.{View}
 use Rattle.live_reads.specs.Paths.{Names}
 use Rattle.live_reads.specs.Roots.{Begins}
 use Rattle.live_scans.specs.declared.position.Position.{Position}

@@ -1,7 +1,7 @@
 //! What follows from a count. Each law is the contract of a function with no body: to use it, call it.
 ghost use Rattle.std.specs.Prelude.{◌≡◌, ℕ, length};
 ghost use Rattle.spec_map.specs.Map.{Pairs, IsMap};
-ghost use Rattle.live_law.specs.Known.{Known};
+ghost use Rattle.live_nodes.specs.Known.{Known};
 ghost use Rattle.live_scans.specs.Scans.{Moment, IsBetween};
 ghost use Rattle.live_scans.specs.Counts.{HasCounted};
 

@@ -1,8 +1,8 @@
 -- How a try of a call ends.
 use Rattle.std.specs.Prelude.{◌≡◌, ℕ, Bool, true, false, Option, Some, None, Result, Ok, Err}
 use Rattle.live_nodes.specs.Seats.{SeatView}
-use Rattle.live_law.specs.Views.{View}
-use Rattle.live_law.specs.Tree.{Answers}
+use Rattle.live_nodes.specs.Views.{View}
+use Rattle.live_nodes.specs.Tree.{Answers}
 use Rattle.live_growth.specs.declared.map.Refusal.{Refusal}
 use Rattle.live_updates.specs.inner.Updates.{Update}
 use Rattle.share_rule.specs.History.{Entry}

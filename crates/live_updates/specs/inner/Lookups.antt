@@ -8,9 +8,9 @@ use Rattle.share_rule.specs.History.{Entry, IsHistory}
 use Rattle.live_nodes.specs.Nodes.{Content}
 use Rattle.live_nodes.specs.Seats.{Place, SeatView, Agree}
 use Rattle.live_layout.specs.Encodes.{Encodes}
-use Rattle.live_law.specs.Levels.{digit, Spot}
-use Rattle.live_law.specs.Views.{Watch, View, view_of, Ask, ask, got}
-use Rattle.live_law.specs.Tree.{HasValue, Answers, Parts, LearnsNode}
+use Rattle.live_nodes.specs.Levels.{digit, Spot}
+use Rattle.live_nodes.specs.Views.{Watch, View, view_of, Ask, ask, got}
+use Rattle.live_nodes.specs.Tree.{HasValue, Answers, Parts, LearnsNode}
 use Rattle.live_reads.specs.declared.descend.End.{End}
 use Rattle.live_reads.specs.Paths.{Sights, IsOpen}
 use Rattle.live_reads.specs.Positions.{KnowsPosition}

@@ -8,8 +8,8 @@ use Rattle.live_nodes.specs.Seats.{SeatView}
 use Rattle.live_layout.specs.Encodes.{words_of, Encodes}
 use Rattle.live_layout.specs.Page.{AreListed}
 use Rattle.live_layout.specs.declared.page.Part.{Part}
-use Rattle.live_law.specs.Levels.{Spot}
-use Rattle.live_law.specs.Views.{View, view_of}
+use Rattle.live_nodes.specs.Levels.{Spot}
+use Rattle.live_nodes.specs.Views.{View, view_of}
 use Rattle.live_growth.specs.Holds.{HoldsOne}
 use Rattle.live_updates.specs.Takings.{Takes}
 

@@ -7,8 +7,8 @@ use Rattle.share_rule.specs.History.{Entry, IsHistory}
 use Rattle.live_nodes.specs.Nodes.{Content}
 use Rattle.live_nodes.specs.Seats.{SeatView}
 use Rattle.live_layout.specs.Encodes.{Encodes, with_child}
-use Rattle.live_law.specs.Views.{View, view_of}
-use Rattle.live_law.specs.Tree.{HasValue, Answers}
+use Rattle.live_nodes.specs.Views.{View, view_of}
+use Rattle.live_nodes.specs.Tree.{HasValue, Answers}
 use Rattle.live_updates.specs.declared.leaf.Missed.{Missed}
 
 -- who gives which key what, if it has that, and the entry of the call

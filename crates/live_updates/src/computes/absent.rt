@@ -4,7 +4,7 @@ ghost use Rattle.live_reads.specs.Paths.{Names};
 ghost use Rattle.live_reads.specs.Positions.{KnowsPosition};
 ghost use Rattle.live_growth.specs.Calls.{IsReady};
 ghost use Rattle.live_nodes.specs.Seats.{SeatView};
-ghost use Rattle.live_law.specs.Views.{View};
+ghost use Rattle.live_nodes.specs.Views.{View};
 ghost use Rattle.live_updates.specs.inner.Lookups.{IsOpenLeaf};
 ghost use Rattle.live_updates.specs.inner.Updates.{Update, IsUpdate};
 ghost use Rattle.live_updates.specs.inner.Ends.{Tries, Enters};
@@ -49,9 +49,10 @@ fn enter_at<U: Updates>(
     requires legal { IsUpdate U.update }
     requires ready { IsReady seat.old.view room.old }
     requires leaf { IsOpenLeaf seat.old.view seat.old.book key leaf }
-    ensures told { (seat.new.book ≡ seat.old.book) × (seat.new.id ≡ seat.old.id)
-        × IsReady seat.new.view room.new
-        × Tries U.update result seat.old.view seat.new.view }
+    ensures book { seat.new.book ≡ seat.old.book }
+    ensures id { seat.new.id ≡ seat.old.id }
+    ensures ready { IsReady seat.new.view room.new }
+    ensures tries { Tries U.update result seat.old.view seat.new.view }
 {
     match update_here::<U>(leaf, key, None, Some(value), seat) {
         None => Tried::Entered,
@@ -82,9 +83,10 @@ fn enter_new<U: Updates>(
     requires above { KnowsPosition seat.old.view key above }
     requires inner { 2 ≤ above.height }
     requires named { Names seat.old.view name key 1 }
-    ensures told { (seat.new.book ≡ seat.old.book) × (seat.new.id ≡ seat.old.id)
-        × IsReady seat.new.view room.new
-        × Tries U.update result seat.old.view seat.new.view }
+    ensures book { seat.new.book ≡ seat.old.book }
+    ensures id { seat.new.id ≡ seat.old.id }
+    ensures ready { IsReady seat.new.view room.new }
+    ensures tries { Tries U.update result seat.old.view seat.new.view }
 {
     let Some(leaf) = reach(nodes, above, name, key, seat) else {
         return Tried::Again;
@@ -109,9 +111,10 @@ fn enter_below<U: Updates>(
     requires ready { IsReady seat.old.view room.old }
     requires above { KnowsPosition seat.old.view key above }
     requires inner { 2 ≤ above.height }
-    ensures told { (seat.new.book ≡ seat.old.book) × (seat.new.id ≡ seat.old.id)
-        × IsReady seat.new.view room.new
-        × Tries U.update result seat.old.view seat.new.view }
+    ensures book { seat.new.book ≡ seat.old.book }
+    ensures id { seat.new.id ≡ seat.old.id }
+    ensures ready { IsReady seat.new.view room.new }
+    ensures tries { Tries U.update result seat.old.view seat.new.view }
 {
     match extend(nodes, above, key, room, seat) {
         Ok(name) => enter_new::<U>(nodes, above, name, key, value, room, seat),
@@ -132,9 +135,10 @@ fn enter_once<U: Updates>(
     requires values { (U.update.old ≡ None) × (U.update.new ≡ Some value) }
     requires legal { IsUpdate U.update }
     requires ready { IsReady seat.old.view room.old }
-    ensures told { (seat.new.book ≡ seat.old.book) × (seat.new.id ≡ seat.old.id)
-        × IsReady seat.new.view room.new
-        × Tries U.update result seat.old.view seat.new.view }
+    ensures book { seat.new.book ≡ seat.old.book }
+    ensures id { seat.new.id ≡ seat.old.id }
+    ensures ready { IsReady seat.new.view room.new }
+    ensures tries { Tries U.update result seat.old.view seat.new.view }
 {
     let Some(end) = descend_from(nodes, room.last, key, seat) else {
         return Tried::Again;
@@ -172,9 +176,10 @@ fn try_enter<U: Updates, R: Refills>(
     requires values { (U.update.old ≡ None) × (U.update.new ≡ Some value) }
     requires legal { IsUpdate U.update }
     requires ready { IsReady seat.old.view room.old }
-    ensures told { (seat.new.book ≡ seat.old.book) × (seat.new.id ≡ seat.old.id)
-        × IsReady seat.new.view room.new
-        × Tries U.update result seat.old.view seat.new.view }
+    ensures book { seat.new.book ≡ seat.old.book }
+    ensures id { seat.new.id ≡ seat.old.id }
+    ensures ready { IsReady seat.new.view room.new }
+    ensures tries { Tries U.update result seat.old.view seat.new.view }
 {
     let tried = enter_once::<U>(nodes, key, value, room, seat);
     if tried == Tried::Lacks && from.refill(nodes, room, seat) {
@@ -198,9 +203,10 @@ pub fn enter<U: Updates, R: Refills>(
     requires values { (U.update.old ≡ None) × (U.update.new ≡ Some value) }
     requires legal { IsUpdate U.update }
     requires ready { IsReady seat.old.view room.old }
-    ensures told { (seat.new.book ≡ seat.old.book) × (seat.new.id ≡ seat.old.id)
-        × IsReady seat.new.view room.new
-        × Enters U.update result seat.old.view seat.new.view }
+    ensures book { seat.new.book ≡ seat.old.book }
+    ensures id { seat.new.id ≡ seat.old.id }
+    ensures ready { IsReady seat.new.view room.new }
+    ensures enters { Enters U.update result seat.old.view seat.new.view }
 {
     for _ in 0..TRIES {
         match try_enter::<U, R>(nodes, from, key, value, room, seat) {

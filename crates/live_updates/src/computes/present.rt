@@ -2,7 +2,7 @@
 //! it was called with. Otherwise it is called again.
 ghost use Rattle.std.specs.Prelude.{◌≡◌, ℕ, IfOk, IfSome, OnErr, unwrap_or};
 ghost use Rattle.std.specs.Option.{option_map};
-ghost use Rattle.live_law.specs.Known.{MadeCall};
+ghost use Rattle.live_nodes.specs.Known.{MadeCall};
 ghost use Rattle.live_growth.specs.Calls.{IsReady};
 ghost use Rattle.live_updates.specs.inner.Lookups.{EndsBy};
 ghost use Rattle.live_updates.specs.Closures.{Reaches, EndsWithCall};
@@ -32,9 +32,10 @@ fn present_once<F: FnMut(u64) -> Option<u64>>(
     requires callable { F.IsAlwaysCallable f.old }
     ensures callable { F.IsAlwaysCallable f.new }
     ensures reached { Reaches F.step f.old f.new }
-    ensures told { (seat.new.book ≡ seat.old.book) × (seat.new.id ≡ seat.old.id)
-        × IsReady seat.new.view room.new
-        × EndsBy seat.old.id (option_map (computed_with seat.old.id key) result)
+    ensures book { seat.new.book ≡ seat.old.book }
+    ensures id { seat.new.id ≡ seat.old.id }
+    ensures ready { IsReady seat.new.view room.new }
+    ensures ends { EndsBy seat.old.id (option_map (computed_with seat.old.id key) result)
         seat.old.view seat.new.view }
     ensures asked { IfSome result (λ both. IfSome both (λ pair.
         EndsWithCall F.step f.old pair.0 pair.1 f.new)) }
@@ -67,9 +68,10 @@ fn always_once<F: FnMut(Option<u64>) -> u64, R: Refills>(
     requires callable { F.IsAlwaysCallable f.old }
     ensures callable { F.IsAlwaysCallable f.new }
     ensures reached { Reaches F.step f.old f.new }
-    ensures told { (seat.new.book ≡ seat.old.book) × (seat.new.id ≡ seat.old.id)
-        × IsReady seat.new.view room.new
-        × Stores seat.old.id key (λ before new. EndsWithCall F.step f.old before new f.new) result
+    ensures book { seat.new.book ≡ seat.old.book }
+    ensures id { seat.new.id ≡ seat.old.id }
+    ensures ready { IsReady seat.new.view room.new }
+    ensures stores { Stores seat.old.id key (λ before new. EndsWithCall F.step f.old before new f.new) result
         seat.old.view seat.new.view }
 {
     match seek::<Brand>(nodes, key, &mut room.last, seat) {
@@ -103,9 +105,10 @@ fn keep_once<R: Refills>(
     requires book { seat.old.book ≡ nodes.now }
     requires serves { R.serves from.now nodes.now }
     requires ready { IsReady seat.old.view room.old }
-    ensures told { (seat.new.book ≡ seat.old.book) × (seat.new.id ≡ seat.old.id)
-        × IsReady seat.new.view room.new
-        × Stores seat.old.id key (λ found new. new ≡ unwrap_or found value) result
+    ensures book { seat.new.book ≡ seat.old.book }
+    ensures id { seat.new.id ≡ seat.old.id }
+    ensures ready { IsReady seat.new.view room.new }
+    ensures stores { Stores seat.old.id key (λ found new. new ≡ unwrap_or found value) result
         seat.old.view seat.new.view }
 {
     match seek::<Brand>(nodes, key, &mut room.last, seat) {
@@ -132,9 +135,10 @@ fn add_once<R: Refills>(
     requires book { seat.old.book ≡ nodes.now }
     requires serves { R.serves from.now nodes.now }
     requires ready { IsReady seat.old.view room.old }
-    ensures told { (seat.new.book ≡ seat.old.book) × (seat.new.id ≡ seat.old.id)
-        × IsReady seat.new.view room.new
-        × Stores seat.old.id key (λ before new. new ≡ sum_with before number) result
+    ensures book { seat.new.book ≡ seat.old.book }
+    ensures id { seat.new.id ≡ seat.old.id }
+    ensures ready { IsReady seat.new.view room.new }
+    ensures stores { Stores seat.old.id key (λ before new. new ≡ sum_with before number) result
         seat.old.view seat.new.view }
 {
     match seek::<Brand>(nodes, key, &mut room.last, seat) {

@@ -9,18 +9,18 @@ returns-in_err-child c =
     let u = c.args.seat.now.view in
     let v = c.name_under.new.seat.view in
     let w = c.meet_some.new.seat.view in
-    let s = c.name_under.ensures.told in
-    let t = c.meet_some.ensures.told in
+    let s = c.name_under.ensures in
+    let t = c.meet_some.ensures in
     let out : c.from_residual-in_err-child.result ≡ None = search rules in
-    record { told = (t.0 ∙ s.0, t.1 ∙ s.1, keeps_then u v w s.2 t.2, t.3 ∙ s.3, when_out (λ x. IsChild w c.args.key c.args.height x × (x.byte ≡ c.args.byte)) c.from_residual-in_err-child.result out) }
+    record { book = t.book ∙ s.book; id = t.id ∙ s.id; keeps = keeps_then u v w s.keeps t.keeps; seen = t.seen ∙ s.seen; child = when_out (λ x. IsChild w c.args.key c.args.height x × (x.byte ≡ c.args.byte)) c.from_residual-in_err-child.result out }
 
 pub returns : goal.returns
 returns c =
     let u = c.args.seat.now.view in
     let v = c.name_under.new.seat.view in
     let w = c.meet_some.new.seat.view in
-    let s = c.name_under.ensures.told in
-    let t = c.in_ok-child.ensures.told in
+    let s = c.name_under.ensures in
+    let t = c.in_ok-child.ensures in
     let child = c.in_ok-child.child in
-    let names = t.4 in
-    record { told = (t.0 ∙ s.0, t.1 ∙ s.1, keeps_then u v w s.2 t.2, t.3 ∙ s.3, child_fits w c.args.key c.args.height c.args.byte child c.fitting.result names.0 names.1 c.fitting.ensures.same c.fitting.ensures.fits) }
+    let names = t.child in
+    record { book = t.book ∙ s.book; id = t.id ∙ s.id; keeps = keeps_then u v w s.keeps t.keeps; seen = t.seen ∙ s.seen; child = child_fits w c.args.key c.args.height c.args.byte child c.fitting.result names.0 names.1 c.fitting.ensures.same c.fitting.ensures.fits }

@@ -1,5 +1,5 @@
 use Rattle.std.proofs.Common.{false}
-use Rattle.live_law.specs.Views.{ask}
+use Rattle.live_nodes.specs.Views.{ask}
 use Rattle.live_copies.proofs.children.name_under.Given as goal
 
 abbrev pub ghosts-look : goal.ghosts-look

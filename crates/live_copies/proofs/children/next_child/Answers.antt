@@ -10,12 +10,12 @@ pub returns-in-Some : goal.returns-in-Some
 returns-in-Some c =
     let u = c.args.seat.now.view in
     let i = c.loop.invariant in
-    let t = c.in-Some.ensures.told in
-    record { told = (t.0 ∙ i.book, t.1 ∙ i.id, keeps_then u c.loop.seat.view c.try_next.new.seat.view i.keeps t.2, t.3 ∙ i.seen, t.4) }
+    let t = c.in-Some.ensures in
+    record { book = t.book ∙ i.book; id = t.id ∙ i.id; keeps = keeps_then u c.loop.seat.view c.try_next.new.seat.view i.keeps t.keeps; seen = t.seen ∙ i.seen; found = t.found }
 
 pub loop-preserved : goal.loop-preserved
 loop-preserved c =
     let u = c.args.seat.now.view in
     let i = c.loop.invariant in
-    let t = c.try_next.ensures.told in
-    record { book = t.0 ∙ i.book; id = t.1 ∙ i.id; keeps = keeps_then u c.loop.seat.view c.try_next.new.seat.view i.keeps t.2; seen = t.3 ∙ i.seen }
+    let t = c.try_next.ensures in
+    record { book = t.book ∙ i.book; id = t.id ∙ i.id; keeps = keeps_then u c.loop.seat.view c.try_next.new.seat.view i.keeps t.keeps; seen = t.seen ∙ i.seen }

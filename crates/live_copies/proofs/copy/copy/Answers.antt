@@ -1,5 +1,5 @@
 use Rattle.std.proofs.Common.{rules, refl, ℕ, subst, ◌≡◌, ◌∙◌}
-use Rattle.live_law.specs.Known.{Known}
+use Rattle.live_nodes.specs.Known.{Known}
 use Rattle.live_growth.specs.Calls.{known_of}
 use Rattle.live_reads.specs.Paths.{Names}
 use Rattle.live_reads.proofs.Finds.{names_kept}
@@ -31,16 +31,16 @@ loop-preserved c =
     let k = c.args.guard.now in
     let v = c.loop.guard-inside.seat in
     let w = c.copy_once.new.seat in
-    let t = c.copy_once.ensures.told in
+    let t = c.copy_once.ensures in
     record {
-      book = t.0 ∙ i.book;
-      begun = begun_on k v.book w.book v.id w.id v.view w.view t.0 t.1 i.begun t.3;
-      ready = ready_kept v.view w.view c.loop.guard-inside.room i.ready t.2;
-      root = names_kept v.view w.view c.in-Some.position.name 0 8 t.2 i.root;
+      book = t.book ∙ i.book;
+      begun = begun_on k v.book w.book v.id w.id v.view w.view t.book t.id i.begun t.seen;
+      ready = ready_kept v.view w.view c.loop.guard-inside.room i.ready t.keeps;
+      root = names_kept v.view w.view c.in-Some.position.name 0 8 t.keeps i.root;
     }
 
 pub invariant_of-guard-in-Ok : goal.invariant_of-guard-in-Ok
-invariant_of-guard-in-Ok c = ready_kept c.loop.guard-inside.seat.view c.copy_once.new.seat.view c.loop.guard-inside.room c.loop.invariant.ready c.copy_once.ensures.told.2
+invariant_of-guard-in-Ok c = ready_kept c.loop.guard-inside.seat.view c.copy_once.new.seat.view c.loop.guard-inside.room c.loop.invariant.ready c.copy_once.ensures.keeps
 
 pub invariant_of-guard-in-Err-OutOfMemory : goal.invariant_of-guard-in-Err-OutOfMemory
-invariant_of-guard-in-Err-OutOfMemory c = ready_kept c.loop.guard-inside.seat.view c.copy_once.new.seat.view c.loop.guard-inside.room c.loop.invariant.ready c.copy_once.ensures.told.2
+invariant_of-guard-in-Err-OutOfMemory c = ready_kept c.loop.guard-inside.seat.view c.copy_once.new.seat.view c.loop.guard-inside.room c.loop.invariant.ready c.copy_once.ensures.keeps

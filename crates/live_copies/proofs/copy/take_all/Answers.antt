@@ -1,7 +1,7 @@
 use Rattle.std.proofs.Common.{rules, ◌≡◌, nat_eq, Err, ap, ◌∙◌}
 use Rattle.share_rule.specs.History.{IsHistory}
 use Rattle.live_nodes.specs.Seats.{place}
-use Rattle.live_law.specs.Views.{View}
+use Rattle.live_nodes.specs.Views.{View}
 use Rattle.live_scans.proofs.Passes.{seen_equal}
 use Rattle.live_scans.proofs.Composed.{more_then}
 use Rattle.live_copies.specs.inner.Locks.{Knows, HasLocks}
@@ -13,30 +13,30 @@ use Rattle.live_copies.proofs.copy.take_all.Goals.{After-whole}
 -- all is locked, and the root word was looked at
 module _ (c : After-whole) where
   same : (c.whole.new.seat.book ≡ c.args.seat.now.book) × (c.whole.new.seat.id ≡ c.args.seat.now.id)
-  same = let e = c.take.ensures.told in let f = c.whole.ensures.told in (f.0 ∙ e.0, f.1 ∙ e.1)
+  same = let e = c.take.ensures in let f = c.whole.ensures in (f.book ∙ e.book, f.id ∙ e.id)
 
   knows : Knows c.args.seat.now.view c.whole.new.seat.view
-  knows = knows_then c.args.seat.now.view c.take.new.seat.view c.whole.new.seat.view c.take.ensures.told.2.knows (keeps_knows c.take.new.seat.view c.whole.new.seat.view c.whole.ensures.told.2)
+  knows = knows_then c.args.seat.now.view c.take.new.seat.view c.whole.new.seat.view c.take.ensures.grows.knows (keeps_knows c.take.new.seat.view c.whole.new.seat.view c.whole.ensures.keeps)
 
   locks : HasLocks c.whole.new.seat.view c.whole.new.seat.book c.take.new.work.locks.items
-  locks = let f = c.whole.ensures.told in locks_kept c.take.new.seat.view c.whole.new.seat.view c.take.new.seat.book c.whole.new.seat.book c.take.new.work.locks.items f.2.places f.2.own f.2.holds f.0 c.take.ensures.told.3
+  locks = let f = c.whole.ensures in locks_kept c.take.new.seat.view c.whole.new.seat.view c.take.new.seat.book c.whole.new.seat.book c.take.new.work.locks.items f.keeps.places f.keeps.own f.keeps.holds f.book c.take.ensures.locks
 
 pub returns-in_err-take : goal.returns-in_err-take
 returns-in_err-take c =
     let w = c.take.new.seat.view in
-    let e = c.take.ensures.told in
+    let e = c.take.ensures in
     let out : c.from_residual.result ≡ Err c.in_err-take.field-0.0 = search rules in
-    record { told = (e.0, e.1, e.2.knows, e.3, seen_equal c.args.seat.now.id c.args.seat.now.view w e.2.seen, err_out (λ _. IsHistory nat_eq w.client.seen c.take.new.work.pairs.items) c.from_residual.result c.in_err-take.field-0.0 out) }
+    record { book = e.book; id = e.id; knows = e.grows.knows; locks = e.locks; seen = seen_equal c.args.seat.now.id c.args.seat.now.view w e.grows.seen; pairs = err_out (λ _. IsHistory nat_eq w.client.seen c.take.new.work.pairs.items) c.from_residual.result c.in_err-take.field-0.0 out }
 
 pub whole-requires-clause-root_word : goal.whole-requires-clause-root_word
-whole-requires-clause-root_word c = c.take.ensures.told.2.knows.places (place 0 1 1) c.requires.root_word
+whole-requires-clause-root_word c = c.take.ensures.grows.knows.places (place 0 1 1) c.requires.root_word
 
 pub returns-then-not-whole : goal.returns-then-not-whole
 returns-then-not-whole c =
     let a = (goal.at.returns-then-not-whole c).After-whole in
     let client : c.whole.new.seat.view.client ≡ c.take.new.seat.view.client = search rules in
-    let seen = ap (λ (z : View). z.seen) client ∙ c.take.ensures.told.2.seen in
-    record { told = ((same a).0, (same a).1, knows a, locks a, seen_equal c.args.seat.now.id c.args.seat.now.view c.whole.new.seat.view seen, tt) }
+    let seen = ap (λ (z : View). z.seen) client ∙ c.take.ensures.grows.seen in
+    record { book = (same a).0; id = (same a).1; knows = knows a; locks = locks a; seen = seen_equal c.args.seat.now.id c.args.seat.now.view c.whole.new.seat.view seen; pairs = tt }
 
 pub returns : goal.returns
 returns c =
@@ -45,15 +45,13 @@ returns c =
     let v = c.args.seat.now.view in
     let w = c.take.new.seat.view in
     let x = c.whole.new.seat.view in
-    let e = c.in_ok-take.ensures.told in
+    let e = c.in_ok-take.ensures in
     let whole = c.whole.ensures.whole (search rules) in
     record {
-      told = (
-        (same a).0,
-        (same a).1,
-        knows a,
-        locks a,
-        more_then id v.client.seen w.client.seen x.client.seen (seen_equal id v w e.2.seen) (whole_more c.take.new.seat.id id w.client x.client e.1 whole),
-        all_taken c.take.new.seat.id w x c.args.root c.args.work.now.pairs.items c.take.new.work.pairs.items whole e.4 c.requires.none,
-      );
+      book = (same a).0;
+      id = (same a).1;
+      knows = knows a;
+      locks = locks a;
+      seen = more_then id v.client.seen w.client.seen x.client.seen (seen_equal id v w e.grows.seen) (whole_more c.take.new.seat.id id w.client x.client e.id whole);
+      pairs = all_taken c.take.new.seat.id w x c.args.root c.args.work.now.pairs.items c.take.new.work.pairs.items whole e.takes c.requires.none;
     }

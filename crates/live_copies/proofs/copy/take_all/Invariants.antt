@@ -1,5 +1,5 @@
 use Rattle.std.proofs.Common.{false}
-use Rattle.live_law.specs.Views.{ask}
+use Rattle.live_nodes.specs.Views.{ask}
 use Rattle.live_copies.proofs.copy.take_all.Given as goal
 
 abbrev pub ghosts-whole : goal.ghosts-whole

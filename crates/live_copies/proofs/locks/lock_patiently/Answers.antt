@@ -8,5 +8,5 @@ returns-in-Some c =
     let v = c.loop.seat.view in
     let w = c.lock_node.new.seat.view in
     let i = c.loop.invariant in
-    let t = c.in-Some.ensures.told in
-    record { told = (t.0 ∙ i.book, t.1 ∙ i.id, locked_since u v w c.args.name c.args.key c.args.height c.in-Some.free i.alike i.client i.holds t.2, tt) }
+    let t = c.in-Some.ensures in
+    record { book = t.book ∙ i.book; id = t.id ∙ i.id; locked = locked_since u v w c.args.name c.args.key c.args.height c.in-Some.free i.alike i.client i.holds t.locked; none = tt }

@@ -23,13 +23,13 @@ loop-words-preserved c =
     let w = c.unlock_one.new.seat.view in
     let i = c.loop-words.invariant in
     let l = c.in-Some.field-0 in
-    let t = c.unlock_one.ensures.told in
+    let t = c.unlock_one.ensures in
     record {
-      book = t.0 ∙ i.book;
-      id = t.1 ∙ i.id;
-      alike = alike_then c.args.seat.now.view v w i.alike t.2;
-      seen = t.5 ∙ i.seen;
-      locks = locks_less v w c.loop-words.seat.book c.unlock_one.new.seat.book l.words.now l.free c.pop.new.self.items (top (goal.at.loop-words-preserved c).In-Some) t.3 t.4 t.2.places t.0;
+      book = t.book ∙ i.book;
+      id = t.id ∙ i.id;
+      alike = alike_then c.args.seat.now.view v w i.alike t.alike;
+      seen = t.seen ∙ i.seen;
+      locks = locks_less v w c.loop-words.seat.book c.unlock_one.new.seat.book l.words.now l.free c.pop.new.self.items (top (goal.at.loop-words-preserved c).In-Some) t.own t.holds t.alike.places t.book;
     }
 
 pub returns : goal.returns
@@ -38,4 +38,4 @@ returns c =
     let i = c.loop-words.invariant in
     let none : c.loop-words.locks.items ≡ [] = search rules in
     let rests = locks_none v c.loop-words.seat.book c.loop-words.locks.items none i.locks in
-    record { told = (i.book, i.id, i.alike, rests.0, rests.1, i.seen) }
+    record { book = i.book; id = i.id; alike = i.alike; own = rests.0; holds = rests.1; seen = i.seen }

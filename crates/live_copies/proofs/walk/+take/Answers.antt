@@ -2,7 +2,7 @@ use Rattle.std.proofs.Common.{rules, arith, refl, sym, ap, subst, ℕ, ◌<◌, 
 use Rattle.std.proofs.lemmas.List.{get_or-replicate}
 use Rattle.std.proofs.lemmas.Result.{IfOk-weaker}
 use Rattle.spec_map.specs.Map.{Pairs}
-use Rattle.live_law.specs.Views.{Own}
+use Rattle.live_nodes.specs.Views.{Own}
 use Rattle.live_reads.proofs.Sights.{sights_names}
 use Rattle.live_copies.specs.inner.Noted.{HasNoted}
 use Rattle.live_copies.specs.inner.Children.{IsChild, IsFound}
@@ -15,22 +15,22 @@ use Rattle.live_copies.proofs.walk.+take.Goals.{After-next_child, In-Some-found,
 -- THE NEXT CHILD was looked for
 module _ (m : ℕ) (c : After-next_child m) where
   same : (c.next_child.new.seat.book ≡ c.args.seat.now.book) × (c.next_child.new.seat.id ≡ c.args.seat.now.id)
-  same = let n = c.next_child.ensures.told in (n.0 ∙ c.loop-from.invariant.book, n.1 ∙ c.loop-from.invariant.id)
+  same = let n = c.next_child.ensures in (n.book ∙ c.loop-from.invariant.book, n.id ∙ c.loop-from.invariant.id)
 
   since : Grows c.loop-from.seat.view c.next_child.new.seat.view
-  since = keeps_grows c.loop-from.seat.view c.next_child.new.seat.view c.next_child.ensures.told.2 c.next_child.ensures.told.3
+  since = keeps_grows c.loop-from.seat.view c.next_child.new.seat.view c.next_child.ensures.keeps c.next_child.ensures.seen
 
   grows : Grows c.args.seat.now.view c.next_child.new.seat.view
   grows = grows_then c.args.seat.now.view c.loop-from.seat.view c.next_child.new.seat.view c.loop-from.invariant.grows since
 
   locks : HasLocks c.next_child.new.seat.view c.next_child.new.seat.book c.loop-from.work.locks.items
-  locks = locks_keep c.loop-from.seat.view c.next_child.new.seat.view c.loop-from.seat.book c.next_child.new.seat.book c.loop-from.work.locks.items c.next_child.ensures.told.2 c.next_child.ensures.told.0 c.loop-from.invariant.locks
+  locks = locks_keep c.loop-from.seat.view c.next_child.new.seat.view c.loop-from.seat.book c.next_child.new.seat.book c.loop-from.work.locks.items c.next_child.ensures.keeps c.next_child.ensures.book c.loop-from.invariant.locks
 
 -- found,
 child : (m : ℕ) (c : In-Some-found m) → IsChild c.next_child.new.seat.view c.args.key c.args.height c.in-Some-found.child × (c.loop-from.from ≤ c.in-Some-found.child.byte)
 child m c =
     let found : c.next_child.result ≡ Some (Some c.in-Some-found.child) = search rules in
-    subst (IsFound c.next_child.new.seat.view c.args.key c.args.height c.loop-from.from) found c.next_child.ensures.told.4
+    subst (IsFound c.next_child.new.seat.view c.args.key c.args.height c.loop-from.from) found c.next_child.ensures.found
 
 -- and taken
 module _ (m : ℕ) (c : After-take m) where
@@ -38,10 +38,10 @@ module _ (m : ℕ) (c : After-take m) where
   looked = (goal.at.After-take m c).After-next_child
 
   taken_same : (c.take.new.seat.book ≡ c.args.seat.now.book) × (c.take.new.seat.id ≡ c.args.seat.now.id)
-  taken_same = let t = c.take.ensures.told in (t.0 ∙ (same m looked).0, t.1 ∙ (same m looked).1)
+  taken_same = let t = c.take.ensures in (t.book ∙ (same m looked).0, t.id ∙ (same m looked).1)
 
   taken_grows : Grows c.args.seat.now.view c.take.new.seat.view
-  taken_grows = grows_then c.args.seat.now.view c.next_child.new.seat.view c.take.new.seat.view (grows m looked) c.take.ensures.told.2
+  taken_grows = grows_then c.args.seat.now.view c.next_child.new.seat.view c.take.new.seat.view (grows m looked) c.take.ensures.grows
 
 pub loop-from-init : goal.loop-from-init
 loop-from-init m c =
@@ -63,7 +63,7 @@ next_child-requires-clause-sighted m c =
 pub returns-in_default : goal.returns-in_default
 returns-in_default m c =
     let a = (goal.at.returns-in_default m c).After-next_child in
-    record { told = ((same m a).0, (same m a).1, grows m a, locks m a, tt) }
+    record { book = (same m a).0; id = (same m a).1; grows = grows m a; locks = locks m a; takes = tt }
 
 pub take-requires : goal.take-requires
 take-requires m c =
@@ -78,7 +78,7 @@ pub returns-in_err-take-in-Some-found : goal.returns-in_err-take-in-Some-found
 returns-in_err-take-in-Some-found m c =
     let a = (goal.at.returns-in_err-take-in-Some-found m c).After-take in
     let out : IfOk c.from_residual.result (λ _. Takes c.take.new.seat.view c.args.name c.args.key c.args.height c.args.work.now.pairs.items c.take.new.work.pairs.items) = search rules in
-    record { told = ((taken_same m a).0, (taken_same m a).1, taken_grows m a, c.take.ensures.told.3, out) }
+    record { book = (taken_same m a).0; id = (taken_same m a).1; grows = taken_grows m a; locks = c.take.ensures.locks; takes = out }
 
 pub close-requires-clause-named : goal.close-requires-clause-named
 close-requires-clause-named m c = names_grown c.args.seat.now.view c.loop-from.seat.view c.args.name c.args.key c.args.height c.loop-from.invariant.grows c.requires.named
@@ -92,26 +92,24 @@ returns m c =
     let name = c.args.name in
     let key = c.args.key in
     let height = c.args.height in
-    let k = c.close.ensures.told in
+    let k = c.close.ensures in
     let old = c.args.work.now.pairs.items in
     let all : c.loop-from.from ≡ 256 = search rules in
     let noted = subst (λ (z : ℕ). HasNoted v.client.own (place_above key height) z c.loop-from.names i.copied.0) all i.copied.2 in
-    let pairs : c.close.new.work.pairs.items ≡ c.loop-from.work.pairs.items = ap (λ z. z.items) k.4 in
+    let pairs : c.close.new.work.pairs.items ≡ c.loop-from.work.pairs.items = ap (λ z. z.items) k.pairs in
     record {
-      told = (
-        k.0 ∙ i.book,
-        k.1 ∙ i.id,
-        grows_then u v x i.grows k.2,
-        k.3,
-        IfOk-weaker c.close.result (λ _. (ps : Pairs ℕ) → HasNoted v.client.own (place_above key height) 256 c.loop-from.names ps → HasTold x name key height ps) (λ _. Takes x name key height old c.close.new.work.pairs.items) (λ _ told. (i.copied.0, pairs ∙ i.copied.1, told i.copied.0 noted)) c.close.ensures.has,
-      );
+      book = k.book ∙ i.book;
+      id = k.id ∙ i.id;
+      grows = grows_then u v x i.grows k.grows;
+      locks = k.locks;
+      takes = IfOk-weaker c.close.result (λ _. (ps : Pairs ℕ) → HasNoted v.client.own (place_above key height) 256 c.loop-from.names ps → HasTold x name key height ps) (λ _. Takes x name key height old c.close.new.work.pairs.items) (λ _ told. (i.copied.0, pairs ∙ i.copied.1, told i.copied.0 noted)) c.close.ensures.has;
     }
 
 pub loop-from-preserved-in-None : goal.loop-from-preserved-in-None
 loop-from-preserved-in-None m c =
     let a = (goal.at.loop-from-preserved-in-None m c).After-next_child in
     let i = c.loop-from.invariant in
-    let own = subst (λ (os : List Own). HasNoted os (place_above c.args.key c.args.height) c.loop-from.from c.loop-from.names i.copied.0) (sym c.next_child.ensures.told.2.own) i.copied.2 in
+    let own = subst (λ (os : List Own). HasNoted os (place_above c.args.key c.args.height) c.loop-from.from c.loop-from.names i.copied.0) (sym c.next_child.ensures.keeps.own) i.copied.2 in
     record {
       book = (same m a).0;
       id = (same m a).1;
@@ -128,19 +126,19 @@ loop-from-preserved m c =
     let is = child m at.In-Some-found in
     let i = c.loop-from.invariant in
     let w = c.next_child.new.seat.view in
-    let t = c.in_ok-take-in-Some-found.ensures.told in
+    let t = c.in_ok-take-in-Some-found.ensures in
     let found = c.in-Some-found.child in
     let few : found.byte < 256 = subst (λ (z : ℕ). z < 256) is.0.byte (digit_low c.args.height found.key) in
-    let s = t.4 in
+    let s = t.takes in
     record {
       book = (taken_same m a).0;
       id = (taken_same m a).1;
       grows = taken_grows m a;
-      locks = t.3;
+      locks = t.locks;
       few = omega (arith, few);
       copied = (
         i.copied.0 ++ s.0,
         copied_then c.args.work.now.pairs.items c.loop-from.work.pairs.items c.take.new.work.pairs.items i.copied.0 s.0 i.copied.1 s.1,
-        noted_then c.loop-from.seat.view.client.own w c.take.new.seat.view (λ o h. t.2.own o ((since m at.After-next_child).own o h)) c.args.key c.args.height c.loop-from.from c.loop-from.names i.copied.0 s.0 found is.0 is.1 few i.copied.2 s.2,
+        noted_then c.loop-from.seat.view.client.own w c.take.new.seat.view (λ o h. t.grows.own o ((since m at.After-next_child).own o h)) c.args.key c.args.height c.loop-from.from c.loop-from.names i.copied.0 s.0 found is.0 is.1 few i.copied.2 s.2,
       );
     }

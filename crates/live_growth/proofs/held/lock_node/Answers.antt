@@ -1,7 +1,7 @@
 use Rattle.std.proofs.Common.{rules, arith, sym, ap, subst, ℕ, List, [], ◌≡◌, ◌/◌, ◌%◌, ◌∙◌}
 use Rattle.live_layout.specs.Head.{IsHead}
 use Rattle.live_nodes.specs.Rows.{last_saw, without_reads}
-use Rattle.live_law.specs.Levels.{place_at}
+use Rattle.live_nodes.specs.Levels.{place_at}
 use Rattle.live_reads.specs.Paths.{AreNamed}
 use Rattle.live_reads.specs.Sees.{Sees}
 use Rattle.live_reads.specs.declared.prefix_match.PrefixMatch.TheVariants as prefix_matches
@@ -19,7 +19,7 @@ module _ (c : After-index-words-0) where
 module _ (c : After-take-free) where
   taken : c.take-free.new.seat.view ≡ reading c.args.seat.now.view c.requires.named.spot.number c.take-free.result []
   taken = node_taken c.args.seat.now.view c.args.name c.args.key c.args.height c.requires.named c.args.seat.now.book c.args.words.now c.requires.words c.index-words-0.result.key (first (goal.at.After-take-free c).After-index-words-0).0
-      c.take-free.new.seat.view c.take-free.result c.take-free.ensures.told
+      c.take-free.new.seat.view c.take-free.result c.take-free.ensures.taken
 
 -- the head was read
 module _ (c : After-word-head) where
@@ -48,13 +48,13 @@ take-free-requires-clause-known c =
 pub returns-then-free-ne0 : goal.returns-then-free-ne0
 returns-then-free-ne0 c =
     let u = c.take-free.ensures.seat in
-    record { told = (u.0, u.1, tt, alike_taken c.args.seat.now.view c.take-free.new.seat.view c.requires.named.spot.number c.take-free.result (taken (goal.at.returns-then-free-ne0 c).After-take-free)) }
+    record { book = u.0; id = u.1; locked = tt; none = alike_taken c.args.seat.now.view c.take-free.new.seat.view c.requires.named.spot.number c.take-free.result (taken (goal.at.returns-then-free-ne0 c).After-take-free) }
 
 pub word-head-requires-clause-may : goal.word-head-requires-clause-may
 word-head-requires-clause-may c =
     let at_first = (first (goal.at.word-head-requires-clause-may c).After-index-words-0).0 in
     let words = subst (λ z. AreNamed z c.args.name c.args.words.now) (sym c.take-free.ensures.seat.0) c.requires.words in
-    may_read_node c.args.seat.now.view c.args.name c.args.key c.args.height c.requires.named c.take-free.new.seat.book c.args.words.now words c.index-words-0.result.key at_first c.take-free.new.seat.view c.take-free.result c.take-free.ensures.told
+    may_read_node c.args.seat.now.view c.args.name c.args.key c.args.height c.requires.named c.take-free.new.seat.book c.args.words.now words c.index-words-0.result.key at_first c.take-free.new.seat.view c.take-free.result c.take-free.ensures.taken
 
 pub word-head-requires-clause-inside : goal.word-head-requires-clause-inside
 word-head-requires-clause-inside c = open_long_of c.requires.named.spot c.args.seat.now.book c.args.words.now (c.requires.words c.requires.named.spot c.requires.named.named)
@@ -63,13 +63,13 @@ pub returns-in_default : goal.returns-in_default
 returns-in_default c =
     let h = (goal.at.returns-in_default c).After-word-head in
     let v₂ = c.word-head.new.seat.view in
-    record { told = (book h, id h, tt, alike_read c.args.seat.now.view v₂ c.requires.named.spot.number c.take-free.result (last_saw v₂.reads) (is_read h)) }
+    record { book = book h; id = id h; locked = tt; none = alike_read c.args.seat.now.view v₂ c.requires.named.spot.number c.take-free.result (last_saw v₂.reads) (is_read h) }
 
 pub returns-then-at-height : goal.returns-then-at-height
 returns-then-at-height c =
     let h = (goal.at.returns-then-at-height c).After-word-head in
     let v₂ = c.word-head.new.seat.view in
-    record { told = (book h, id h, tt, alike_read c.args.seat.now.view v₂ c.requires.named.spot.number c.take-free.result (last_saw v₂.reads) (is_read h)) }
+    record { book = book h; id = id h; locked = tt; none = alike_read c.args.seat.now.view v₂ c.requires.named.spot.number c.take-free.result (last_saw v₂.reads) (is_read h) }
 
 pub lock-requires-clause-book : goal.lock-requires-clause-book
 lock-requires-clause-book c =
@@ -89,10 +89,10 @@ returns-then-not-lock c =
     let at = goal.at.returns-then-not-lock c in
     let h = at.After-word-head in
     let v₂ = c.word-head.new.seat.view in
-    let told = c.lock.ensures.told in
+    let told = c.lock.ensures.locked in
     let s = c.lock.ensures.seat in
     let same = not_locked c.args.seat.now.view c.args.name c.args.key c.args.height c.requires.named v₂ c.take-free.result (last_saw v₂.reads) (is_read h) c.index-words-0-2.result.key (again at.After-index-words-0-2).0 c.lock.new.seat.view told.0 told.1 told.3 (search rules) in
-    record { told = (s.0 ∙ book h, s.1 ∙ id h, tt, same) }
+    record { book = s.0 ∙ book h; id = s.1 ∙ id h; locked = tt; none = same }
 
 pub returns : goal.returns
 returns c =
@@ -100,11 +100,11 @@ returns c =
     let h = at.After-word-head in
     let key = c.args.key in
     let v₂ = c.word-head.new.seat.view in
-    let told = c.lock.ensures.told in
+    let told = c.lock.ensures.locked in
     let s = c.lock.ensures.seat in
     let covers : c.compare.result ≡ prefix_matches.Covers c.in-Covers.at = search rules in
     let same_height : c.in-Covers.at ≡ c.args.height = search rules in
     let sees = λ (form : ℕ) (q : List ℕ) (is : IsHead c.word-head.result form q). subst (λ z. Sees q key (prefix_matches.Covers z)) same_height (subst (Sees q key) covers (c.compare.ensures form q is)) in
     let locked = is_locked c.args.seat.now.view c.args.name key c.args.height c.requires.named v₂ c.take-free.result (last_saw v₂.reads) (is_read h) c.index-words-0-2.result.key (again at.After-index-words-0-2).0 c.lock.new.seat.view told.0 told.1 told.3
     (search rules) (search rules) (search rules) c.ranges.key.fits c.word-head.result (λ content agrees. (c.word-head.ensures.read content agrees).0) sees in
-    record { told = (s.0 ∙ book h, s.1 ∙ id h, locked, tt) }
+    record { book = s.0 ∙ book h; id = s.1 ∙ id h; locked = locked; none = tt }

@@ -1,5 +1,5 @@
 use Rattle.std.proofs.Common.{rules, sym, arith, [], ◌≡◌, ◌/◌, ◌%◌, ◌∙◌}
-use Rattle.live_law.specs.Levels.{place_at}
+use Rattle.live_nodes.specs.Levels.{place_at}
 use Rattle.live_reads.proofs.Views.{reading, first_word}
 use Rattle.live_growth.proofs.Locks.{alike_taken}
 use Rattle.live_growth.proofs.Again.{may_reclaim, not_reclaimed, is_reclaimed}
@@ -14,7 +14,7 @@ module _ (c : After-index-words-0) where
 -- it was taken
 module _ (c : After-take-obsolete) where
   taken : c.take-obsolete.new.seat.view ≡ reading c.args.seat.now.view c.requires.sighted.spot.number c.take-obsolete.result []
-  taken = c.take-obsolete.ensures.told (place_at c.requires.sighted.spot) c.requires.sighted.placed (first (goal.at.After-take-obsolete c).After-index-words-0).0
+  taken = c.take-obsolete.ensures.taken (place_at c.requires.sighted.spot) c.requires.sighted.placed (first (goal.at.After-take-obsolete c).After-index-words-0).0
 
 -- THE FIRST WORD AGAIN
 module _ (c : After-index-words-0-2) where
@@ -30,7 +30,7 @@ take-obsolete-requires-clause-known c = (place_at c.requires.sighted.spot, (c.re
 pub returns-then-obsolete-ne3 : goal.returns-then-obsolete-ne3
 returns-then-obsolete-ne3 c =
     let u = c.take-obsolete.ensures.seat in
-    record { told = (u.0, u.1, tt, alike_taken c.args.seat.now.view c.take-obsolete.new.seat.view c.requires.sighted.spot.number c.take-obsolete.result (taken (goal.at.returns-then-obsolete-ne3 c).After-take-obsolete)) }
+    record { book = u.0; id = u.1; reclaimed = tt; none = alike_taken c.args.seat.now.view c.take-obsolete.new.seat.view c.requires.sighted.spot.number c.take-obsolete.result (taken (goal.at.returns-then-obsolete-ne3 c).After-take-obsolete) }
 
 pub reclaim-requires-clause-book : goal.reclaim-requires-clause-book
 reclaim-requires-clause-book c = c.take-obsolete.ensures.seat.0 ∙ sym (again (goal.at.reclaim-requires-clause-book c).After-index-words-0-2).1
@@ -45,18 +45,18 @@ reclaim-requires-clause-locks c =
 pub returns-then-not-reclaim : goal.returns-then-not-reclaim
 returns-then-not-reclaim c =
     let at = goal.at.returns-then-not-reclaim c in
-    let told = c.reclaim.ensures.told in
+    let told = c.reclaim.ensures.locked in
     let s = c.reclaim.ensures.seat in
     let u = c.take-obsolete.ensures.seat in
     let same = not_reclaimed c.args.seat.now.view c.args.name c.requires.sighted c.take-obsolete.new.seat.view c.take-obsolete.result (taken at.After-take-obsolete) c.index-words-0-2.result.key (again at.After-index-words-0-2).0 c.reclaim.new.seat.view told.0 told.1 told.3 (search rules) in
-    record { told = (s.0 ∙ u.0, s.1 ∙ u.1, tt, same) }
+    record { book = s.0 ∙ u.0; id = s.1 ∙ u.1; reclaimed = tt; none = same }
 
 pub returns : goal.returns
 returns c =
     let at = goal.at.returns c in
-    let told = c.reclaim.ensures.told in
+    let told = c.reclaim.ensures.locked in
     let s = c.reclaim.ensures.seat in
     let u = c.take-obsolete.ensures.seat in
     let back = is_reclaimed c.args.seat.now.view c.args.name c.requires.sighted c.take-obsolete.new.seat.view c.take-obsolete.result (taken at.After-take-obsolete) c.index-words-0-2.result.key (again at.After-index-words-0-2).0 c.reclaim.new.seat.view told.0 told.1 told.3
     (search rules) (search rules) (search rules) in
-    record { told = (s.0 ∙ u.0, s.1 ∙ u.1, back, tt) }
+    record { book = s.0 ∙ u.0; id = s.1 ∙ u.1; reclaimed = back; none = tt }

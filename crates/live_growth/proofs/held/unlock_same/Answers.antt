@@ -1,8 +1,8 @@
 use Rattle.std.proofs.Common.{sym, ap, refl, arith, [], ◌+◌, ◌/◌, ◌∙◌}
-use Rattle.live_law.specs.Levels.{place_at}
-use Rattle.live_law.specs.Views.{View, rest_of}
-use Rattle.live_law.specs.Tree.{StaysSame}
-use Rattle.live_law.proofs.Writes.{node_stays}
+use Rattle.live_nodes.specs.Levels.{place_at}
+use Rattle.live_nodes.specs.Views.{View, rest_of}
+use Rattle.live_nodes.specs.Tree.{StaysSame}
+use Rattle.live_nodes.proofs.Writes.{node_stays}
 use Rattle.live_nodes.specs.Seats.{SeatView}
 use Rattle.live_reads.proofs.Views.{first_word}
 use Rattle.live_growth.proofs.Locks.{may_free, is_freed}
@@ -33,20 +33,18 @@ returns c =
     let first = c.index-words-0.result in
     let at_k = (first_word (place_at a) b words h.are first first (sym c.index-words-0.is)).0 in
     let s = c.unlock.ensures.seat in
-    let f = is_freed v b words free a x x h first.key at_k StaysSame c.unlock.new.seat.view (free + 4) c.unlock.ensures.told in
+    let f = is_freed v b words free a x x h first.key at_k StaysSame c.unlock.new.seat.view (free + 4) c.unlock.ensures.freed in
     record {
-      told = (
-        s.0,
-        s.1,
-        record {
-          own = ap (λ (z : SeatView View). z.client.own) f.1 ∙ (ap (λ (z : View). z.own) f.2 ∙ ap rest_of h.own);
-          holds = ap (λ (z : SeatView View). z.holds) f.1;
-          alike = record {
-            places = ap (λ (z : SeatView View). z.places) f.1;
-            met = ap (λ (z : SeatView View). z.client.met) f.1 ∙ ap (λ (z : View). z.met) f.2;
-            room = ap (λ (z : SeatView View). z.room) f.1;
-          };
-        },
-        ap (λ (z : SeatView View). z.client.seen) f.1 ∙ ap (λ (z : View). z.seen) f.2,
-      );
+      book = s.0;
+      id = s.1;
+      rest = record {
+        own = ap (λ (z : SeatView View). z.client.own) f.1 ∙ (ap (λ (z : View). z.own) f.2 ∙ ap rest_of h.own);
+        holds = ap (λ (z : SeatView View). z.holds) f.1;
+        alike = record {
+          places = ap (λ (z : SeatView View). z.places) f.1;
+          met = ap (λ (z : SeatView View). z.client.met) f.1 ∙ ap (λ (z : View). z.met) f.2;
+          room = ap (λ (z : SeatView View). z.room) f.1;
+        };
+      };
+      seen = ap (λ (z : SeatView View). z.client.seen) f.1 ∙ ap (λ (z : View). z.seen) f.2;
     }

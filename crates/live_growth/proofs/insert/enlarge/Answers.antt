@@ -9,10 +9,10 @@ returns-then-replace c =
     let v = c.args.seat.now.view in
     let w = c.replace.new.seat.view in
     let room = c.replace.new.room in
-    let t = c.replace.ensures.told in
+    let t = c.replace.ensures in
     let s = c.args.position in
-    let met = sights_grown v w s.name c.args.key s.height t.3 c.requires.position.named in
-    record { told = (t.0, t.1, ready_spare w room c.keep.new.self t.2 (c.keep.ensures.kept w t.2.spare met), t.3.seen) }
+    let met = sights_grown v w s.name c.args.key s.height t.grown c.requires.position.named in
+    record { book = t.book; id = t.id; ready = ready_spare w room c.keep.new.self t.ready (c.keep.ensures.kept w t.ready.spare met); seen = t.grown.seen }
 
 pub returns-else-replace : goal.returns-else-replace
-returns-else-replace c = let t = c.replace.ensures.told in record { told = (t.0, t.1, t.2, t.3.seen) }
+returns-else-replace c = let t = c.replace.ensures in record { book = t.book; id = t.id; ready = t.ready; seen = t.grown.seen }

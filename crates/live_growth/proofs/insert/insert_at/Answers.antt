@@ -13,20 +13,20 @@ module _ (c : After-insert_here) where
   ready = ready_last c.args.seat.now.view c.args.room.now room.last c.requires.ready (λ _. (c.requires.position, c.requires.low))
 
   rests : IsReady c.insert_here.new.seat.view room
-  rests = ready_rest c.args.seat.now.view c.insert_here.new.seat.view room ready c.insert_here.ensures.told.2
+  rests = ready_rest c.args.seat.now.view c.insert_here.new.seat.view room ready c.insert_here.ensures.rest
 
 pub returns-in-Ok : goal.returns-in-Ok
 returns-in-Ok c =
-    let l = c.insert_here.ensures.told in
-    record { told = (l.0, l.1, rests (goal.at.returns-in-Ok c).After-insert_here, c.in-Ok.ensures.told.3) }
+    let l = c.insert_here.ensures in
+    record { book = l.book; id = l.id; ready = rests (goal.at.returns-in-Ok c).After-insert_here; inserts = c.in-Ok.ensures.done }
 
 pub enlarge-requires-clause-ready : goal.enlarge-requires-clause-ready
 enlarge-requires-clause-ready c = rests (goal.at.enlarge-requires-clause-ready c).After-insert_here
 
 pub enlarge-requires-clause-position : goal.enlarge-requires-clause-position
-enlarge-requires-clause-position c = position_rest c.args.seat.now.view c.insert_here.new.seat.view c.args.key c.args.end.position c.insert_here.ensures.told.2 c.requires.position
+enlarge-requires-clause-position c = position_rest c.args.seat.now.view c.insert_here.new.seat.view c.args.key c.args.end.position c.insert_here.ensures.rest c.requires.position
 
 pub returns-in-Err-Busy : goal.returns-in-Err-Busy
 returns-in-Err-Busy c =
-    let l = c.insert_here.ensures.told in
-    record { told = (l.0, l.1, rests (goal.at.returns-in-Err-Busy c).After-insert_here, c.in-Err-Busy.ensures.told.4) }
+    let l = c.insert_here.ensures in
+    record { book = l.book; id = l.id; ready = rests (goal.at.returns-in-Err-Busy c).After-insert_here; inserts = c.in-Err-Busy.ensures.seen }

@@ -1,5 +1,5 @@
 use Rattle.std.proofs.Common.{false}
-use Rattle.live_law.specs.Views.{ask}
+use Rattle.live_nodes.specs.Views.{ask}
 use Rattle.live_growth.proofs.insert.insert_at.Given as goal
 
 abbrev pub ghosts-insert_here : goal.ghosts-insert_here

@@ -14,7 +14,7 @@ pub returns-then-spare-eq0 : goal.returns-then-spare-eq0
 returns-then-spare-eq0 c =
     let s = c.spare_or_made-spare.ensures in
     let g = s.grown in
-    record { told = (s.seat.0, s.seat.1, s.ready, g); leaf = tt }
+    record { book = s.seat.0; id = s.seat.1; ready = s.ready; grown = g; leaf = tt }
 
 pub link-requires-clause-named : goal.link-requires-clause-named
 link-requires-clause-named c =
@@ -34,19 +34,22 @@ linked c =
     let x = c.link.new.seat.view in
     let s = c.spare_or_made-spare.ensures in
     let e = c.link.ensures in
-    let t = e.told in
-    (ready_again w x c.spare_or_made-spare.new.room c.link.new.free_nodes s.ready t.2 t.3 e.free_nodes, grown_twice v w x s.grown t.2)
+    let t = e in
+    (ready_again w x c.spare_or_made-spare.new.room c.link.new.free_nodes s.ready t.grown t.room e.free_nodes, grown_twice v w x s.grown t.grown)
 
-pub returns-in_err-link-clause-told : goal.returns-in_err-link-clause-told
-returns-in_err-link-clause-told c =
-    let l = linked (goal.at.returns-in_err-link-clause-told c).After-link in
-    let s = c.spare_or_made-spare.ensures in
-    let t = c.link.ensures.told in
-    (t.0 ∙ s.seat.0, t.1 ∙ s.seat.1, l.0, l.1)
+pub returns-in_err-link-clause-ready : goal.returns-in_err-link-clause-ready
+returns-in_err-link-clause-ready c =
+    let l = linked (goal.at.returns-in_err-link-clause-ready c).After-link in
+    l.0
+
+pub returns-in_err-link-clause-grown : goal.returns-in_err-link-clause-grown
+returns-in_err-link-clause-grown c =
+    let l = linked (goal.at.returns-in_err-link-clause-grown c).After-link in
+    l.1
 
 pub returns : goal.returns
 returns c =
     let l = linked (goal.at.returns c).After-link in
     let s = c.spare_or_made-spare.ensures in
-    let t = c.link.ensures.told in
-    record { told = (t.0 ∙ s.seat.0, t.1 ∙ s.seat.1, l.0, l.1); leaf = c.in_ok-link.ensures.linked }
+    let t = c.link.ensures in
+    record { book = t.book ∙ s.seat.0; id = t.id ∙ s.seat.1; ready = l.0; grown = l.1; leaf = c.in_ok-link.ensures.linked }

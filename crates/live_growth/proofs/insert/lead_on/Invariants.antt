@@ -1,5 +1,5 @@
 use Rattle.std.proofs.Common.{false}
-use Rattle.live_law.specs.Views.{ask}
+use Rattle.live_nodes.specs.Views.{ask}
 use Rattle.live_growth.proofs.insert.lead_on.Given as goal
 
 abbrev pub ghosts-link : goal.ghosts-link

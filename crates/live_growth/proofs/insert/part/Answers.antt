@@ -12,7 +12,7 @@ pub returns-then-spare-eq0 : goal.returns-then-spare-eq0
 returns-then-spare-eq0 c =
     let s = c.spare_or_made-spare.ensures in
     let g = s.grown in
-    record { told = (s.seat.0, s.seat.1, s.ready, g.seen); parted = tt }
+    record { book = s.seat.0; id = s.seat.1; ready = s.ready; seen = g.seen; parted = tt }
 
 pub split-parted-requires-clause-named : goal.split-parted-requires-clause-named
 split-parted-requires-clause-named c =
@@ -38,24 +38,29 @@ module _ (c : After-split-parted) where
       let x = c.split-parted.new.seat.view in
       let s = c.spare_or_made-spare.ensures in
       let e = c.split-parted.ensures in
-      let t = e.told in
       let some : c.spare_or_made-spare.result ≢ 0 = search rules in
-      (t.0 ∙ s.seat.0, t.1 ∙ s.seat.1, ready_again_met w x c.spare_or_made-spare.new.room c.split-parted.new.free_nodes c.spare_or_made-spare.result s.ready t.2 t.3 (s.sighted (omega (arith, some))) e.free_nodes, t.2.seen ∙ s.grown.seen)
+      (e.book ∙ s.seat.0, e.id ∙ s.seat.1, ready_again_met w x c.spare_or_made-spare.new.room c.split-parted.new.free_nodes c.spare_or_made-spare.result s.ready e.grown e.room (s.sighted (omega (arith, some))) e.free_nodes, e.grown.seen ∙ s.grown.seen)
 
 pub returns-then-not-parted : goal.returns-then-not-parted
-returns-then-not-parted c = record { told = told (goal.at.returns-then-not-parted c).After-split-parted; parted = tt }
+returns-then-not-parted c =
+    let t = told (goal.at.returns-then-not-parted c).After-split-parted in
+    record { book = t.0; id = t.1; ready = t.2; seen = t.3; parted = tt }
 
 pub returns : goal.returns
 returns c =
     let v = c.args.seat.now.view in
     let w = c.spare_or_made-spare.new.seat.view in
     let x = c.split-parted.new.seat.view in
-    let above = position_grown w x c.args.key c.args.position c.split-parted.ensures.told.2 (position_grown v w c.args.key c.args.position c.spare_or_made-spare.ensures.grown c.requires.position) in
+    let above = position_grown w x c.args.key c.args.position c.split-parted.ensures.grown (position_grown v w c.args.key c.args.position c.spare_or_made-spare.ensures.grown c.requires.position) in
     let below = c.split-parted.ensures.parted (search rules) in
     let l = c.requires.mismatches.1 in
     let some = l.some_height in
     let lower = l.lower in
+    let t = told (goal.at.returns c).After-split-parted in
     record {
-      told = told (goal.at.returns c).After-split-parted;
+      book = t.0;
+      id = t.1;
+      ready = t.2;
+      seen = t.3;
       parted = (position_under x c.args.key c.args.position c.spare_or_made-spare.result c.args.mismatch.at above below.1 (omega (arith, some, lower)) below.0, omega (arith, some, lower));
     }

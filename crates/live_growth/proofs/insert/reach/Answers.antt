@@ -6,4 +6,4 @@ pub returns-clause-leaf : goal.returns-clause-leaf
 returns-clause-leaf c =
     let node = c.in_ok-here.ensures.open in
     let inner = c.requires.inner in
-    (position_below c.args.seat.now.view c.enter.new.seat.view c.args.key c.args.above c.args.name 1 c.enter.ensures.told.2 c.requires.above node.names (omega arith) (omega (arith, inner)), refl, node)
+    (position_below c.args.seat.now.view c.enter.new.seat.view c.args.key c.args.above c.args.name 1 c.enter.ensures.keeps c.requires.above node.names (omega arith) (omega (arith, inner)), refl, node)

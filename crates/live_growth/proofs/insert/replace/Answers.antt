@@ -11,7 +11,7 @@ pub returns-then-spare-eq0 : goal.returns-then-spare-eq0
 returns-then-spare-eq0 c =
     let s = c.spare_or_made-spare.ensures in
     let g = s.grown in
-    record { told = (s.seat.0, s.seat.1, s.ready, g) }
+    record { book = s.seat.0; id = s.seat.1; ready = s.ready; grown = g }
 
 pub grow_node-requires-clause-position : goal.grow_node-requires-clause-position
 grow_node-requires-clause-position c =
@@ -30,4 +30,4 @@ returns c =
     let s = c.spare_or_made-spare.ensures in
     let g = s.grown in
     let e = c.grow_node.ensures in
-    record { told = (e.seat.0 ∙ s.seat.0, e.seat.1 ∙ s.seat.1, ready_again w x c.spare_or_made-spare.new.room c.grow_node.new.free_nodes s.ready e.grown e.room e.free_nodes, grown_twice v w x g e.grown) }
+    record { book = e.seat.0 ∙ s.seat.0; id = e.seat.1 ∙ s.seat.1; ready = ready_again w x c.spare_or_made-spare.new.room c.grow_node.new.free_nodes s.ready e.grown e.room e.free_nodes; grown = grown_twice v w x g e.grown }

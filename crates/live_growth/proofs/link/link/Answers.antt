@@ -6,11 +6,11 @@ use Rattle.live_nodes.specs.Acts as acts
 use Rattle.live_nodes.specs.Rows.{AreOf, draft_of, nth}
 use Rattle.live_layout.specs.Encodes.{words_of, Encodes, empty_node}
 use Rattle.live_layout.specs.Encodes.{HasRoom as HasSpace}
-use Rattle.live_law.specs.Levels.{up, digit, Spot, place_at}
-use Rattle.live_law.specs.Views.{View, Own, locked, detached}
-use Rattle.live_law.specs.Tree.{IsMap, LinksAgain, StaysSame, again, left_again}
-use Rattle.live_law.proofs.Joins.{link_below}
-use Rattle.live_law.proofs.Writes.{node_stays}
+use Rattle.live_nodes.specs.Levels.{up, digit, Spot, place_at}
+use Rattle.live_nodes.specs.Views.{View, Own, locked, detached}
+use Rattle.live_nodes.specs.Tree.{IsMap, LinksAgain, StaysSame, again, left_again}
+use Rattle.live_nodes.proofs.Joins.{link_below}
+use Rattle.live_nodes.proofs.Writes.{node_stays}
 use Rattle.live_reads.specs.Paths.{AreNamed}
 use Rattle.live_growth.specs.Holds.{Alike, HasLocked, HasReclaimed, HoldsOne}
 use Rattle.live_reads.proofs.Views.{first_word}
@@ -31,14 +31,14 @@ module _ (g : Over) (c : In-Some-lock_node g) where
   above : HasLocked c.args.seat.now.view c.lock_node.new.seat.view c.args.name c.args.key c.args.height c.in-Some-lock_node.free
   above =
       let locked : c.lock_node.result ≡ Some c.in-Some-lock_node.free = search rules in
-      taken_by c.lock_node.result c.in-Some-lock_node.free locked (HasLocked c.args.seat.now.view c.lock_node.new.seat.view c.args.name c.args.key c.args.height) c.lock_node.ensures.told.2
+      taken_by c.lock_node.result c.in-Some-lock_node.free locked (HasLocked c.args.seat.now.view c.lock_node.new.seat.view c.args.name c.args.key c.args.height) c.lock_node.ensures.locked
 
   above_form : c.form_below-form.result ≡ above.names.spot.shape.form
   above_form = c.form_below-form.ensures above.names.spot.shape.key above.names.spot.shape.form above.names.named
 
   above_held : HoldsOne c.lock_node.new.seat.view c.lock_node.new.seat.book c.in-Some.words.now c.in-Some-lock_node.free above.names.spot above.content above.content
   above_held =
-      let named = subst (λ z. AreNamed z c.args.name c.in-Some.words.now) (sym (c.lock_node.ensures.told.0 ∙ c.requires.book)) c.in-Some.ensures in
+      let named = subst (λ z. AreNamed z c.args.name c.in-Some.words.now) (sym (c.lock_node.ensures.book ∙ c.requires.book)) c.in-Some.ensures in
       holds_one c.args.seat.now.view c.lock_node.new.seat.view c.args.name c.args.key c.args.height c.in-Some-lock_node.free above c.lock_node.new.seat.book c.in-Some.words.now named c.requires.rests.0 c.requires.rests.1
 
   above_drafted : draft_of (nth 0 c.lock_node.new.seat.view.holds) ≡ above.content
@@ -58,7 +58,7 @@ module _ (g : Over) (c : In-Some-reclaim g) where
   back : HasReclaimed c.obstacle.new.seat.view c.reclaim.new.seat.view c.args.spare c.in-Some-reclaim.again
   back =
       let locked : c.reclaim.result ≡ Some c.in-Some-reclaim.again = search rules in
-      taken_by c.reclaim.result c.in-Some-reclaim.again locked (HasReclaimed c.obstacle.new.seat.view c.reclaim.new.seat.view c.args.spare) c.reclaim.ensures.told.2
+      taken_by c.reclaim.result c.in-Some-reclaim.again locked (HasReclaimed c.obstacle.new.seat.view c.reclaim.new.seat.view c.args.spare) c.reclaim.ensures.reclaimed
 
   abbrev r : Spot
   r = back.spot
@@ -70,10 +70,10 @@ module _ (g : Over) (c : In-Some-reclaim g) where
   above_still = subst (λ z. HoldsOne z.view z.book c.in-Some.words.now c.in-Some-lock_node.free a ca ca) (sym c.obstacle.ensures.seat.same) (above_held g first)
 
   back_book : c.reclaim.new.seat.book ≡ c.args.seat.now.book
-  back_book = c.reclaim.ensures.told.0 ∙ (ap (λ z. z.book) c.obstacle.ensures.seat.same ∙ c.lock_node.ensures.told.0)
+  back_book = c.reclaim.ensures.book ∙ (ap (λ z. z.book) c.obstacle.ensures.seat.same ∙ c.lock_node.ensures.book)
 
   back_id : c.reclaim.new.seat.id ≡ c.args.seat.now.id
-  back_id = c.reclaim.ensures.told.1 ∙ (ap (λ z. z.id) c.obstacle.ensures.seat.same ∙ c.lock_node.ensures.told.1)
+  back_id = c.reclaim.ensures.id ∙ (ap (λ z. z.id) c.obstacle.ensures.seat.same ∙ c.lock_node.ensures.id)
 
   -- the seat holds both, with these drafts
   abbrev Hold2 : Seen → Book → Content → Content → Type 0
@@ -82,7 +82,7 @@ module _ (g : Over) (c : In-Some-reclaim g) where
   both : Hold2 c.reclaim.new.seat.view c.reclaim.new.seat.book back.content ca
   both =
       let named = subst (λ z. AreNamed z c.args.spare c.in-Some-words_at.others.now) (sym (back_book ∙ c.requires.book)) c.in-Some-words_at.ensures in
-      pair_reclaimed c.obstacle.new.seat.view c.reclaim.new.seat.view c.obstacle.new.seat.book c.reclaim.new.seat.book c.in-Some-words_at.others.now c.in-Some.words.now c.in-Some-reclaim.again c.in-Some-lock_node.free c.args.spare back a ca c.reclaim.ensures.told.0 above_still named
+      pair_reclaimed c.obstacle.new.seat.view c.reclaim.new.seat.view c.obstacle.new.seat.book c.reclaim.new.seat.book c.in-Some-words_at.others.now c.in-Some.words.now c.in-Some-reclaim.again c.in-Some-lock_node.free c.args.spare back a ca c.reclaim.ensures.book above_still named
 
   back_own : c.reclaim.new.seat.view.client.own ≡ detached r ∷ locked a ca ∷ []
   back_own = back.own ∙ ap (λ (os : List Own). detached r ∷ os) above_still.own
@@ -168,7 +168,7 @@ module _ (g : Over) (c : After-unlock_again g) where
   linked : (e : View) × (c.unlock_again.new.seat.view ≡ seat_view e c.put.new.seat.view.places c.put.new.seat.view.reads (hold (r_of g led).number (c.in-Some-reclaim.again + 2) (dr g led) ∷ []) c.put.new.seat.view.room) × LinksAgain g.A.Asks.ask (cr g led) c.put.new.seat.view.client (a_of g led).number (da g led) e
   linked =
       let at_a = (first_word (place_at (a_of g led)) c.put.new.seat.book c.in-Some.words.now (wrote g led).are_p c.index-words-0.result c.index-words-0.result (sym c.index-words-0.is)).0 in
-      pair_freed _ _ _ _ _ _ _ _ _ _ (wrote g led) c.index-words-0.result.key at_a (LinksAgain g.A.Asks.ask (cr g led)) c.unlock_again.new.seat.view (c.in-Some-lock_node.free + 4) c.unlock_again.ensures.told
+      pair_freed _ _ _ _ _ _ _ _ _ _ (wrote g led) c.index-words-0.result.key at_a (LinksAgain g.A.Asks.ask (cr g led)) c.unlock_again.new.seat.view (c.in-Some-lock_node.free + 4) c.unlock_again.ensures.freed
 
   grip : Grips c.unlock_again.new.seat.view c.unlock_again.new.seat.book c.in-Some-words_at.others.now c.in-Some-reclaim.again (place_at (r_of g led)) (dr g led)
   grip = record {
@@ -233,28 +233,55 @@ unlock-requires-clause-frees g c =
     let stays = node_stays c.unlock_again.new.seat.id c.unlock_again.new.seat.view.client (again g.A.Asks.ask (r_of g k)) (cr g k) [] own tt (c.in-Some-reclaim.again + 4) (c.in-Some-reclaim.again / 4 + 1) (omega (arith, even)) (dr g k) (sym (same_draft g k)) in
     grip_frees c.unlock_again.new.seat.view c.unlock_again.new.seat.book c.in-Some-words_at.others.now c.in-Some-reclaim.again (place_at (r_of g k)) (dr g k) (grip g u) c.index-others-0.result.key at_r StaysSame c.unlock_again.new.seat.id (c.in-Some-reclaim.again + 4) stays
 
-pub returns-clause-told : goal.returns-clause-told
-returns-clause-told g c =
-    let u = (goal.at.returns-clause-told g c).After-unlock_again in
+pub returns-clause-book : goal.returns-clause-book
+returns-clause-book g c =
+    let u = (goal.at.returns-clause-book g c).After-unlock_again in
+    let k = led g u in
+    let b = held_of g k in
+    let e = c.unlock.ensures.seat in
+    let pr = c.put.ensures.seat.others in
+    let fr = c.lay.ensures.seat.others in
+    e.0 ∙ (c.unlock_again.ensures.seat.0 ∙ (ap (λ s. s.book) pr ∙ (ap (λ s. s.book) fr ∙ back_book g b)))
+
+pub returns-clause-id : goal.returns-clause-id
+returns-clause-id g c =
+    let u = (goal.at.returns-clause-id g c).After-unlock_again in
+    let k = led g u in
+    let b = held_of g k in
+    let e = c.unlock.ensures.seat in
+    let pr = c.put.ensures.seat.others in
+    let fr = c.lay.ensures.seat.others in
+    e.1 ∙ (c.unlock_again.ensures.seat.1 ∙ (ap (λ s. s.id) pr ∙ (ap (λ s. s.id) fr ∙ back_id g b)))
+
+pub returns-clause-grown : goal.returns-clause-grown
+returns-clause-grown g c =
+    let u = (goal.at.returns-clause-grown g c).After-unlock_again in
     let k = led g u in
     let b = held_of g k in
     let l = linked g u in
     let alike = back_alike g b in
-    let e = c.unlock.ensures.seat in
     let pr = c.put.ensures.seat.others in
     let fr = c.lay.ensures.seat.others in
     let at_r = (first_word (place_at (r_of g k)) c.unlock_again.new.seat.book c.in-Some-words_at.others.now (grip g u).are c.index-others-0.result c.index-others-0.result (sym c.index-others-0.is)).0 in
-    let o = grip_freed c.unlock_again.new.seat.view c.unlock_again.new.seat.book c.in-Some-words_at.others.now c.in-Some-reclaim.again (place_at (r_of g k)) (dr g k) (grip g u) c.index-others-0.result.key at_r StaysSame c.unlock.new.seat.view (c.in-Some-reclaim.again + 4) c.unlock.ensures.told in
+    let o = grip_freed c.unlock_again.new.seat.view c.unlock_again.new.seat.book c.in-Some-words_at.others.now c.in-Some-reclaim.again (place_at (r_of g k)) (dr g k) (grip g u) c.index-others-0.result.key at_r StaysSame c.unlock.new.seat.view (c.in-Some-reclaim.again + 4) c.unlock.ensures.freed in
     let places = ap (λ s. s.view.places) pr ∙ (ap (λ s. s.view.places) fr ∙ alike.places) in
     let met = ap (λ s. s.view.client.met) pr ∙ (ap (λ s. s.view.client.met) fr ∙ alike.met) in
     let seen = ap (λ s. s.view.client.seen) pr ∙ (ap (λ s. s.view.client.seen) fr ∙ back_seen g b) in
+    again_grown c.args.seat.now.view c.put.new.seat.view c.unlock_again.new.seat.view c.unlock.new.seat.view l.0 o.0 g.A.Asks.ask (cr g k) (r_of g k) (a_of g k) (ca g b) (hold (r_of g k).number (c.in-Some-reclaim.again + 2) (dr g k) ∷ []) places met seen (all_own g k) l.1 l.2 o.1 o.2
+
+pub returns-clause-room : goal.returns-clause-room
+returns-clause-room g c =
+    let u = (goal.at.returns-clause-room g c).After-unlock_again in
+    let k = led g u in
+    let b = held_of g k in
+    let l = linked g u in
+    let alike = back_alike g b in
+    let pr = c.put.ensures.seat.others in
+    let fr = c.lay.ensures.seat.others in
+    let at_r = (first_word (place_at (r_of g k)) c.unlock_again.new.seat.book c.in-Some-words_at.others.now (grip g u).are c.index-others-0.result c.index-others-0.result (sym c.index-others-0.is)).0 in
+    let o = grip_freed c.unlock_again.new.seat.view c.unlock_again.new.seat.book c.in-Some-words_at.others.now c.in-Some-reclaim.again (place_at (r_of g k)) (dr g k) (grip g u) c.index-others-0.result.key at_r StaysSame c.unlock.new.seat.view (c.in-Some-reclaim.again + 4) c.unlock.ensures.freed in
     let room = ap (λ s. s.view.room) pr ∙ (ap (λ s. s.view.room) fr ∙ alike.room) in
-    let grown = again_grown c.args.seat.now.view c.put.new.seat.view c.unlock_again.new.seat.view c.unlock.new.seat.view l.0 o.0 g.A.Asks.ask (cr g k) (r_of g k) (a_of g k) (ca g b) (hold (r_of g k).number (c.in-Some-reclaim.again + 2) (dr g k) ∷ []) places met seen (all_own g k) l.1 l.2 o.1 o.2 in (
-      e.0 ∙ (c.unlock_again.ensures.seat.0 ∙ (ap (λ s. s.book) pr ∙ (ap (λ s. s.book) fr ∙ back_book g b))),
-      e.1 ∙ (c.unlock_again.ensures.seat.1 ∙ (ap (λ s. s.id) pr ∙ (ap (λ s. s.id) fr ∙ back_id g b))),
-      grown,
-      ap (λ (v : Seen). v.room) o.1 ∙ (ap (λ (v : Seen). v.room) l.1 ∙ room),
-    )
+    ap (λ (v : Seen). v.room) o.1 ∙ (ap (λ (v : Seen). v.room) l.1 ∙ room)
 
 pub returns-clause-linked : goal.returns-clause-linked
 returns-clause-linked g c =
@@ -263,6 +290,6 @@ returns-clause-linked g c =
     let b = held_of g k in
     let l = linked g u in
     let at_r = (first_word (place_at (r_of g k)) c.unlock_again.new.seat.book c.in-Some-words_at.others.now (grip g u).are c.index-others-0.result c.index-others-0.result (sym c.index-others-0.is)).0 in
-    let o = grip_freed c.unlock_again.new.seat.view c.unlock_again.new.seat.book c.in-Some-words_at.others.now c.in-Some-reclaim.again (place_at (r_of g k)) (dr g k) (grip g u) c.index-others-0.result.key at_r StaysSame c.unlock.new.seat.view (c.in-Some-reclaim.again + 4) c.unlock.ensures.told in
+    let o = grip_freed c.unlock_again.new.seat.view c.unlock_again.new.seat.book c.in-Some-words_at.others.now c.in-Some-reclaim.again (place_at (r_of g k)) (dr g k) (grip g u) c.index-others-0.result.key at_r StaysSame c.unlock.new.seat.view (c.in-Some-reclaim.again + 4) c.unlock.ensures.freed in
     again_names c.put.new.seat.view c.unlock_again.new.seat.view c.unlock.new.seat.view l.0 o.0 g.A.Asks.ask (cr g k) (r_of g k) (a_of g k) (ca g b) (hold (r_of g k).number (c.in-Some-reclaim.again + 2) (dr g k) ∷ []) c.args.key 1 c.args.spare
     (wrote g k).placed_x (back g b).named c.requires.asks.0 c.requires.asks.1 (all_own g k) l.1 l.2 o.1 o.2

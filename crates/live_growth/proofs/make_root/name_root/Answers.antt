@@ -5,11 +5,11 @@ use Rattle.live_nodes.specs.Seats.{SeatView, seat_view, Place, IsIn, hold}
 use Rattle.live_nodes.specs.Acts as acts
 use Rattle.live_nodes.specs.Rows.{AreOf, draft_of, nth}
 use Rattle.live_layout.specs.Encodes.{words_of, Encodes, empty_node}
-use Rattle.live_law.specs.Levels.{up, Spot, name_of, place_at}
-use Rattle.live_law.specs.Views.{View, Own, detached, root_word}
-use Rattle.live_law.specs.Tree.{IsMap, LinksAgain, StaysSame, again, left_again}
-use Rattle.live_law.proofs.Joins.{link_root}
-use Rattle.live_law.proofs.Writes.{node_stays}
+use Rattle.live_nodes.specs.Levels.{up, Spot, name_of, place_at}
+use Rattle.live_nodes.specs.Views.{View, Own, detached, root_word}
+use Rattle.live_nodes.specs.Tree.{IsMap, LinksAgain, StaysSame, again, left_again}
+use Rattle.live_nodes.proofs.Joins.{link_root}
+use Rattle.live_nodes.proofs.Writes.{node_stays}
 use Rattle.live_reads.specs.Paths.{AreNamed}
 use Rattle.live_growth.specs.Holds.{HasReclaimed, HoldsRootWord}
 use Rattle.live_reads.proofs.Views.{first_word}
@@ -45,7 +45,7 @@ module _ (g : Over) (c : In-Some-reclaim g) where
   first = (goal.at.In-Some-reclaim g c).In-Some-lock_root_word
 
   abbrev back : HasReclaimed c.get.new.seat.view c.reclaim.new.seat.view c.args.spare c.in-Some-reclaim.back
-  back = c.in-Some-reclaim.ensures.told.2
+  back = c.in-Some-reclaim.ensures.reclaimed
 
   abbrev r : Spot
   r = back.spot
@@ -54,17 +54,17 @@ module _ (g : Over) (c : In-Some-reclaim g) where
   still = subst (λ z. HoldsRootWord z.view z.book c.root_words-words.result.now c.in-Some-lock_root_word.free (named g first)) (sym c.get.ensures.seat.same) (held g first)
 
   back_book : c.reclaim.new.seat.book ≡ c.args.seat.now.book
-  back_book = c.in-Some-reclaim.ensures.told.0 ∙ (ap (λ z. z.book) c.get.ensures.seat.same ∙ c.lock_root_word.ensures.seat.0)
+  back_book = c.in-Some-reclaim.ensures.book ∙ (ap (λ z. z.book) c.get.ensures.seat.same ∙ c.lock_root_word.ensures.seat.0)
 
   back_id : c.reclaim.new.seat.id ≡ c.args.seat.now.id
-  back_id = c.in-Some-reclaim.ensures.told.1 ∙ (ap (λ z. z.id) c.get.ensures.seat.same ∙ c.lock_root_word.ensures.seat.1)
+  back_id = c.in-Some-reclaim.ensures.id ∙ (ap (λ z. z.id) c.get.ensures.seat.same ∙ c.lock_root_word.ensures.seat.1)
 
   -- the seat holds both, with these drafts
   abbrev Hold2 : Seen → Book → Content → Content → Type 0
   Hold2 v b dr dp = Pair v b c.in-Some.others.now c.root_words-words.result.now c.in-Some-reclaim.back c.in-Some-lock_root_word.free r p dr dp
 
   both : Hold2 c.reclaim.new.seat.view c.reclaim.new.seat.book back.content (named g first)
-  both = pair_with_root_word c.get.new.seat.view c.reclaim.new.seat.view c.get.new.seat.book c.reclaim.new.seat.book c.in-Some.others.now c.root_words-words.result.now c.in-Some-reclaim.back c.in-Some-lock_root_word.free c.args.spare back (named g first) c.in-Some-reclaim.ensures.told.0 still
+  both = pair_with_root_word c.get.new.seat.view c.reclaim.new.seat.view c.get.new.seat.book c.reclaim.new.seat.book c.in-Some.others.now c.root_words-words.result.now c.in-Some-reclaim.back c.in-Some-lock_root_word.free c.args.spare back (named g first) c.in-Some-reclaim.ensures.book still
       (subst (λ z. AreNamed z c.args.spare c.in-Some.others.now) (sym (back_book ∙ c.requires.book)) c.in-Some.ensures)
 
   own_then : c.reclaim.new.seat.view.client.own ≡ detached r ∷ root_word (named g first) ∷ []
@@ -137,7 +137,7 @@ module _ (g : Over) (c : After-unlock_again g) where
   linked : (e : View) × (c.unlock_again.new.seat.view ≡ seat_view e c.set.new.seat.view.places c.set.new.seat.view.reads (hold (r g (held_of g led)).number (c.in-Some-reclaim.back + 2) (dr g led) ∷ []) c.set.new.seat.view.room) × LinksAgain g.A.Asks.ask (cr g led) c.set.new.seat.view.client 0 (dp g led) e
   linked =
       let at_p = (first_word p c.set.new.seat.book c.root_words-words.result.now (wrote g led).are_p c.index-words-0.result c.index-words-0.result (sym c.index-words-0.is)).0 in
-      pair_freed _ _ _ _ _ _ _ _ _ _ (wrote g led) c.index-words-0.result.key at_p (LinksAgain g.A.Asks.ask (cr g led)) c.unlock_again.new.seat.view (c.in-Some-lock_root_word.free + 4) c.unlock_again.ensures.told
+      pair_freed _ _ _ _ _ _ _ _ _ _ (wrote g led) c.index-words-0.result.key at_p (LinksAgain g.A.Asks.ask (cr g led)) c.unlock_again.new.seat.view (c.in-Some-lock_root_word.free + 4) c.unlock_again.ensures.freed
 
   alone : Grips c.unlock_again.new.seat.view c.unlock_again.new.seat.book c.in-Some.others.now c.in-Some-reclaim.back (place_at (r g (held_of g led))) (dr g led)
   alone = record {
@@ -212,7 +212,7 @@ returns-clause-grown g c =
     let fr = c.lay.ensures.seat.others in
     let alike = (back g b).alike in
     let at_r = (first_word (place_at x) c.unlock_again.new.seat.book c.in-Some.others.now (alone g u).are c.index-others-0.result c.index-others-0.result (sym c.index-others-0.is)).0 in
-    let o = grip_freed c.unlock_again.new.seat.view c.unlock_again.new.seat.book c.in-Some.others.now c.in-Some-reclaim.back (place_at x) (dr g k) (alone g u) c.index-others-0.result.key at_r StaysSame c.unlock.new.seat.view (c.in-Some-reclaim.back + 4) c.unlock.ensures.told in
+    let o = grip_freed c.unlock_again.new.seat.view c.unlock_again.new.seat.book c.in-Some.others.now c.in-Some-reclaim.back (place_at x) (dr g k) (alone g u) c.index-others-0.result.key at_r StaysSame c.unlock.new.seat.view (c.in-Some-reclaim.back + 4) c.unlock.ensures.freed in
     let places = ap (λ s. s.view.places) sr ∙ (ap (λ s. s.view.places) fr ∙ (alike.places ∙ (ap (λ z. z.view.places) same ∙ h.alike.places))) in
     let met = ap (λ s. s.view.client.met) sr ∙ (ap (λ s. s.view.client.met) fr ∙ (alike.met ∙ (ap (λ z. z.view.client.met) same ∙ h.alike.met))) in
     let seen = ap (λ s. s.view.client.seen) sr ∙ (ap (λ s. s.view.client.seen) fr ∙ ((back g b).seen ∙ (ap (λ z. z.view.client.seen) same ∙ ap (λ (z : View). z.seen) h.client))) in
@@ -227,5 +227,5 @@ returns-clause-room g c =
     let x = r g b in
     let h = c.in-Some-lock_root_word.ensures.locked in
     let at_r = (first_word (place_at x) c.unlock_again.new.seat.book c.in-Some.others.now (alone g u).are c.index-others-0.result c.index-others-0.result (sym c.index-others-0.is)).0 in
-    let o = grip_freed c.unlock_again.new.seat.view c.unlock_again.new.seat.book c.in-Some.others.now c.in-Some-reclaim.back (place_at x) (dr g k) (alone g u) c.index-others-0.result.key at_r StaysSame c.unlock.new.seat.view (c.in-Some-reclaim.back + 4) c.unlock.ensures.told in
+    let o = grip_freed c.unlock_again.new.seat.view c.unlock_again.new.seat.book c.in-Some.others.now c.in-Some-reclaim.back (place_at x) (dr g k) (alone g u) c.index-others-0.result.key at_r StaysSame c.unlock.new.seat.view (c.in-Some-reclaim.back + 4) c.unlock.ensures.freed in
     ap (λ (v : Seen). v.room) o.1 ∙ (ap (λ (v : Seen). v.room) l.1 ∙ (ap (λ s. s.view.room) c.set.ensures.seat.others ∙ (ap (λ s. s.view.room) c.lay.ensures.seat.others ∙ ((back g b).alike.room ∙ (ap (λ z. z.view.room) c.get.ensures.seat.same ∙ h.alike.room)))))

@@ -9,11 +9,11 @@ use Rattle.live_nodes.specs.Seats.{SeatView, seat_view, Place, Hold, IsIn, hold}
 use Rattle.live_nodes.specs.Acts as acts
 use Rattle.live_nodes.specs.Rows.{AreOf, draft_of, nth}
 use Rattle.live_layout.specs.Encodes.{words_of, Encodes, IsBelow, IsWord, in_form}
-use Rattle.live_law.specs.Levels.{up, digit, Spot, place_at}
-use Rattle.live_law.specs.Views.{View, locked, detached, rest_of}
-use Rattle.live_law.specs.Tree.{IsMap, LinksAgain, StaysSame, again, left_again}
-use Rattle.live_law.proofs.Joins.{link_grown}
-use Rattle.live_law.proofs.Writes.{node_stays, node_retires}
+use Rattle.live_nodes.specs.Levels.{up, digit, Spot, place_at}
+use Rattle.live_nodes.specs.Views.{View, locked, detached, rest_of}
+use Rattle.live_nodes.specs.Tree.{IsMap, LinksAgain, StaysSame, again, left_again}
+use Rattle.live_nodes.proofs.Joins.{link_grown}
+use Rattle.live_nodes.proofs.Writes.{node_stays, node_retires}
 use Rattle.live_reads.proofs.Views.{first_word}
 use Rattle.live_growth.proofs.Grips.{Grips, grip_frees, grip_freed}
 use Rattle.live_growth.proofs.Pairs.{change_done, at_result, grown_changes}
@@ -143,7 +143,7 @@ module _ (g : Over) (c : After-index-others-0 g) where
   hold_r = hold r_of.number (c.args.spare.free + 2) (dr g led)
 
   linked : (e : View) × (c.unlock_again.new.seat.view ≡ seat_view e c.change.new.seat.view.places c.change.new.seat.view.reads (hold_r ∷ hold_x ∷ []) c.change.new.seat.view.room) × LinksAgain g.A.Asks.ask (cr g led) c.change.new.seat.view.client (p g given_of).number (dp g led) e
-  linked = triple_freed (wrote g led) c.index-words_above-0.result.key (at_p g led) (LinksAgain g.A.Asks.ask (cr g led)) c.unlock_again.new.seat.view (c.args.two.free_above + 4) c.unlock_again.ensures.told
+  linked = triple_freed (wrote g led) c.index-words_above-0.result.key (at_p g led) (LinksAgain g.A.Asks.ask (cr g led)) c.unlock_again.new.seat.view (c.args.two.free_above + 4) c.unlock_again.ensures.freed
 
   linked_own : c.unlock_again.new.seat.view.client.own ≡ locked (again g.A.Asks.ask r_of) (cr g led) ∷ detached x_of ∷ []
   linked_own = ap (λ (k : Seen). k.client.own) linked.1 ∙ (ap (λ (k : View). k.own) linked.2 ∙ ap (left_again g.A.Asks.ask (cr g led)) (all_own g led))
@@ -168,7 +168,7 @@ module _ (g : Over) (c : After-index-words-0 g) where
   used = (goal.at.After-index-words-0 g c).After-index-others-0
 
   freed : (e : View) × (c.unlock.new.seat.view ≡ seat_view e c.unlock_again.new.seat.view.places c.unlock_again.new.seat.view.reads (hold_x g used ∷ []) c.unlock_again.new.seat.view.room) × StaysSame c.unlock_again.new.seat.view.client (r_of g used).number (dr g (led g used)) e
-  freed = first_freed c.unlock_again.new.seat.view (r_of g used) c.args.spare.free (dr g (led g used)) (hold_x g used ∷ []) (linked_holds g used) (placed_r g used) c.index-others-0.result.key (at_r g used) StaysSame ((wrote g (led g used)).x_r, tt) c.unlock.new.seat.view (c.args.spare.free + 4) c.unlock.ensures.told
+  freed = first_freed c.unlock_again.new.seat.view (r_of g used) c.args.spare.free (dr g (led g used)) (hold_x g used ∷ []) (linked_holds g used) (placed_r g used) c.index-others-0.result.key (at_r g used) StaysSame ((wrote g (led g used)).x_r, tt) c.unlock.new.seat.view (c.args.spare.free + 4) c.unlock.ensures.freed
 
   grip : Grips c.unlock.new.seat.view c.unlock.new.seat.book c.args.words.now c.args.two.free (place_at (x_of g used)) (cx g (given_of g used))
   grip = record {
@@ -243,7 +243,7 @@ returns g c =
     let s = given_of g u in
     let f = freed g a in
     let l = linked g u in
-    let last = grip_freed c.unlock.new.seat.view c.unlock.new.seat.book c.args.words.now c.args.two.free (place_at (x_of g u)) (cx g s) (grip g a) c.index-words-0.result.key (at_x g a) StaysSame c.retire.new.seat.view (c.args.two.free + 3) c.retire.ensures.told in
+    let last = grip_freed c.unlock.new.seat.view c.unlock.new.seat.book c.args.words.now c.args.two.free (place_at (x_of g u)) (cx g s) (grip g a) c.index-words-0.result.key (at_x g a) StaysSame c.retire.new.seat.view (c.args.two.free + 3) c.retire.ensures.freed in
     let pr = c.change.ensures.seat.others in
     let fr = c.resize.ensures.seat.others in
     let e = c.retire.ensures.seat in

@@ -8,11 +8,11 @@ use Rattle.live_nodes.specs.Nodes.{Content}
 use Rattle.live_nodes.specs.Acts as acts
 use Rattle.live_nodes.specs.Rows.{AreOf, draft_of, nth}
 use Rattle.live_layout.specs.Encodes.{words_of, Encodes, IsBelow, IsWord, empty_node, with_child}
-use Rattle.live_law.specs.Levels.{up, digit, bytes_above, Spot, place_at}
-use Rattle.live_law.specs.Views.{View, Own, locked, detached, rest_of, watch}
-use Rattle.live_law.specs.Tree.{IsMap, LinksAgain, StaysSame, again, left_again}
-use Rattle.live_law.proofs.Joins.{link_above}
-use Rattle.live_law.proofs.Writes.{node_stays, node_retires}
+use Rattle.live_nodes.specs.Levels.{up, digit, bytes_above, Spot, place_at}
+use Rattle.live_nodes.specs.Views.{View, Own, locked, detached, rest_of, watch}
+use Rattle.live_nodes.specs.Tree.{IsMap, LinksAgain, StaysSame, again, left_again}
+use Rattle.live_nodes.proofs.Joins.{link_above}
+use Rattle.live_nodes.proofs.Writes.{node_stays, node_retires}
 use Rattle.live_reads.specs.Paths.{AreNamed}
 use Rattle.live_reads.specs.Mismatches.{IsParted}
 use Rattle.live_growth.specs.Holds.{Alike, HasLocked, HasReclaimed, HoldsOne, number_at}
@@ -30,18 +30,18 @@ Seen = SeatView View
 
 -- THE NODE ABOVE is locked
 module _ (g : Over) (c : In-Some-lock_node g) where
-  above : HasLocked c.args.seat.now.view c.lock_node.new.seat.view c.args.above c.args.key c.args.height c.in-Some-lock_node.free
+  above : HasLocked c.args.seat.now.view c.lock_node.new.seat.view c.args.position.name c.args.key c.args.position.height c.in-Some-lock_node.free
   above =
       let locked : c.lock_node.result ≡ Some c.in-Some-lock_node.free = search rules in
-      taken_by c.lock_node.result c.in-Some-lock_node.free locked (HasLocked c.args.seat.now.view c.lock_node.new.seat.view c.args.above c.args.key c.args.height) c.lock_node.ensures.told.2
+      taken_by c.lock_node.result c.in-Some-lock_node.free locked (HasLocked c.args.seat.now.view c.lock_node.new.seat.view c.args.position.name c.args.key c.args.position.height) c.lock_node.ensures.locked
 
   above_form : c.form_below-form.result ≡ above.names.spot.shape.form
   above_form = c.form_below-form.ensures above.names.spot.shape.key above.names.spot.shape.form above.names.named
 
   above_held : HoldsOne c.lock_node.new.seat.view c.lock_node.new.seat.book c.in-Some.words.now c.in-Some-lock_node.free above.names.spot above.content above.content
   above_held =
-      let named = subst (λ z. AreNamed z c.args.above c.in-Some.words.now) (sym (c.lock_node.ensures.told.0 ∙ c.requires.book)) c.in-Some.ensures in
-      holds_one c.args.seat.now.view c.lock_node.new.seat.view c.args.above c.args.key c.args.height c.in-Some-lock_node.free above c.lock_node.new.seat.book c.in-Some.words.now named c.requires.rests.0 c.requires.rests.1
+      let named = subst (λ z. AreNamed z c.args.position.name c.in-Some.words.now) (sym (c.lock_node.ensures.book ∙ c.requires.book)) c.in-Some.ensures in
+      holds_one c.args.seat.now.view c.lock_node.new.seat.view c.args.position.name c.args.key c.args.position.height c.in-Some-lock_node.free above c.lock_node.new.seat.book c.in-Some.words.now named c.requires.rests.0 c.requires.rests.1
 
   above_drafted : draft_of (nth 0 c.lock_node.new.seat.view.holds) ≡ above.content
   above_drafted = draft_is c.lock_node.new.seat.view c.lock_node.new.seat.book c.in-Some.words.now c.in-Some-lock_node.free above.names.spot above.content above.content above_held
@@ -60,7 +60,7 @@ module _ (g : Over) (c : In-Some-reclaim g) where
   back : HasReclaimed c.leads_to.new.seat.view c.reclaim.new.seat.view c.args.spare c.in-Some-reclaim.back
   back =
       let locked : c.reclaim.result ≡ Some c.in-Some-reclaim.back = search rules in
-      taken_by c.reclaim.result c.in-Some-reclaim.back locked (HasReclaimed c.leads_to.new.seat.view c.reclaim.new.seat.view c.args.spare) c.reclaim.ensures.told.2
+      taken_by c.reclaim.result c.in-Some-reclaim.back locked (HasReclaimed c.leads_to.new.seat.view c.reclaim.new.seat.view c.args.spare) c.reclaim.ensures.reclaimed
 
   abbrev r : Spot
   r = back.spot
@@ -72,10 +72,10 @@ module _ (g : Over) (c : In-Some-reclaim g) where
   above_still = subst (λ z. HoldsOne z.view z.book c.in-Some.words.now c.in-Some-lock_node.free a ca ca) (sym c.leads_to.ensures.seat.same) (above_held g first)
 
   back_book : c.reclaim.new.seat.book ≡ c.args.seat.now.book
-  back_book = c.reclaim.ensures.told.0 ∙ (ap (λ z. z.book) c.leads_to.ensures.seat.same ∙ c.lock_node.ensures.told.0)
+  back_book = c.reclaim.ensures.book ∙ (ap (λ z. z.book) c.leads_to.ensures.seat.same ∙ c.lock_node.ensures.book)
 
   back_id : c.reclaim.new.seat.id ≡ c.args.seat.now.id
-  back_id = c.reclaim.ensures.told.1 ∙ (ap (λ z. z.id) c.leads_to.ensures.seat.same ∙ c.lock_node.ensures.told.1)
+  back_id = c.reclaim.ensures.id ∙ (ap (λ z. z.id) c.leads_to.ensures.seat.same ∙ c.lock_node.ensures.id)
 
   -- the seat holds both, with these drafts
   abbrev Hold2 : Seen → Book → Content → Content → Type 0
@@ -84,7 +84,7 @@ module _ (g : Over) (c : In-Some-reclaim g) where
   both : Hold2 c.reclaim.new.seat.view c.reclaim.new.seat.book back.content ca
   both =
       let named = subst (λ z. AreNamed z c.args.spare c.in-Some-words_at.others.now) (sym (back_book ∙ c.requires.book)) c.in-Some-words_at.ensures in
-      pair_reclaimed c.leads_to.new.seat.view c.reclaim.new.seat.view c.leads_to.new.seat.book c.reclaim.new.seat.book c.in-Some-words_at.others.now c.in-Some.words.now c.in-Some-reclaim.back c.in-Some-lock_node.free c.args.spare back a ca c.reclaim.ensures.told.0 above_still named
+      pair_reclaimed c.leads_to.new.seat.view c.reclaim.new.seat.view c.leads_to.new.seat.book c.reclaim.new.seat.book c.in-Some-words_at.others.now c.in-Some.words.now c.in-Some-reclaim.back c.in-Some-lock_node.free c.args.spare back a ca c.reclaim.ensures.book above_still named
 
   back_own : c.reclaim.new.seat.view.client.own ≡ detached r ∷ locked a ca ∷ []
   back_own = back.own ∙ ap (λ (os : List Own). detached r ∷ os) above_still.own
@@ -105,10 +105,10 @@ module _ (g : Over) (c : After-parts g) where
   second = (goal.at.After-parts g c).In-Some-reclaim
 
   both_then : Hold2 g second c.parts.new.seat.view c.parts.new.seat.book (back g second).content (ca g second)
-  both_then = pair_keeps _ _ _ _ _ _ _ _ _ _ (both g second) c.parts.new.seat.view c.parts.new.seat.book c.parts.ensures.told.0 c.parts.ensures.told.2
+  both_then = pair_keeps _ _ _ _ _ _ _ _ _ _ (both g second) c.parts.new.seat.view c.parts.new.seat.book c.parts.ensures.book c.parts.ensures.keeps
 
   own_then : c.parts.new.seat.view.client.own ≡ detached (r g second) ∷ locked (a g second) (ca g second) ∷ []
-  own_then = c.parts.ensures.told.2.own ∙ back_own g second
+  own_then = c.parts.ensures.keeps.own ∙ back_own g second
 
 -- it doesn't: the node is given up
 module _ (g : Over) (c : After-retire g) where
@@ -125,7 +125,7 @@ module _ (g : Over) (c : After-retire g) where
   retired =
       let z = both_then g read_of in
       let at_r = (first_word (place_at (r g two_of)) c.parts.new.seat.book c.in-Some-words_at.others.now z.are_x c.index-others-0.result c.index-others-0.result (sym c.index-others-0.is)).0 in
-      first_freed c.parts.new.seat.view (r g two_of) c.in-Some-reclaim.back (back g two_of).content (hold_a ∷ []) z.holds z.placed_x c.index-others-0.result.key at_r StaysSame (z.apart, tt) c.retire.new.seat.view (c.in-Some-reclaim.back + 3) c.retire.ensures.told
+      first_freed c.parts.new.seat.view (r g two_of) c.in-Some-reclaim.back (back g two_of).content (hold_a ∷ []) z.holds z.placed_x c.index-others-0.result.key at_r StaysSame (z.apart, tt) c.retire.new.seat.view (c.in-Some-reclaim.back + 3) c.retire.ensures.freed
 
 -- IT IS FILLED
 module _ (g : Over) (c : After-put g) where
@@ -191,11 +191,11 @@ module _ (g : Over) (c : After-change g) where
       let x = l.spot in
       let some = l.some_height in
       let lower = l.lower in
-      let bytes = c.bytes_of-bytes.result in
-      let short : length (take (8 - at) bytes) ≡ 8 - at = (let k = length-take (8 - at) bytes in let o = c.bytes_of-bytes.ensures.long in omega (arith, k, o)) in
+      let bytes = c.bytes_of.result in
+      let short : length (take (8 - at) bytes) ≡ 8 - at = (let k = length-take (8 - at) bytes in let o = c.bytes_of.ensures.long in omega (arith, k, o)) in
       let few : length (take (8 - at) bytes) < 7 = omega (arith, short, some, lower) in
       let is = c.put.ensures.is (empty_node c.form_below-kind.result (take (8 - at) bytes)) (Node c.args.mismatch.below) c.lay.ensures.is refl c.word_below-child.ensures.child few refl in
-      let mismatch = again_split q r_of x c.args.key at bytes c.bytes_of-bytes.ensures.long c.bytes_of-bytes.ensures.is c.ranges.key.fits asks.0 asks.1 (omega (arith, some, lower)) c.requires.leaves.level c.form_below-kind.result (back_form g held_of) cr c.args.mismatch.byte c.args.mismatch.below l.named
+      let mismatch = again_split q r_of x c.args.key at bytes c.bytes_of.ensures.long c.bytes_of.ensures.is c.ranges.key.fits asks.0 asks.1 (omega (arith, some, lower)) c.requires.leaves.level c.form_below-kind.result (back_form g held_of) cr c.args.mismatch.byte c.args.mismatch.below l.named
       (subst (λ k. Encodes k (with_child (empty_node c.form_below-kind.result (take (8 - at) bytes)) c.args.mismatch.byte (Some (Node c.args.mismatch.below)))) (sym same_draft) is) in
       let digit_is = c.byte_at-byte.ensures ∙ ap (λ (k : ℕ × ℕ). digit k.0 k.1) (λ i. (sym h.names.high i, sym asks.0 i)) in
       let covers = ap (up a_of.shape.height) asks.0 ∙ h.names.covers in
@@ -204,7 +204,7 @@ module _ (g : Over) (c : After-change g) where
       let was = above_was g made in
       let before = draft_of (nth 1 c.put.new.seat.view.holds) in
       let changed = change_done c.change.result h.content before was h.its h.encodes c.form_below-form.result (h.in_form ∙ sym form) c.byte_at-byte.result there c.change.ensures.was in
-      let changes = grown_changes q h.content before was da c.form_below-form.result a_of (again q r_of) c.byte_at-byte.result digit_is form c.word_below.result c.args.spare c.word_below.ensures.child (back g held_of).named c.args.height h.names.high c.requires.height.0 (at_result c.change.result changed c.change.ensures.is) in
+      let changes = grown_changes q h.content before was da c.form_below-form.result a_of (again q r_of) c.byte_at-byte.result digit_is form c.word_below.result c.args.spare c.word_below.ensures.child (back g held_of).named c.args.position.height h.names.high c.requires.height.0 (at_result c.change.result changed c.change.ensures.is) in
       let named = λ (k : TableNode ℕ) (encodes : Encodes h.content k) (formed : k.form ≡ a_of.shape.form). subst (λ o. IsBelow (lookup k.children o) (Some has.0)) digit_is (has.1 k (subst (λ o. Encodes o k) (sym drafted) encodes) (formed ∙ sym form)) in
       let spells = λ (i : ℕ) (k : IsWord has.0 (Node i)). has.2 i k ∙ l.named in
       let known : IsIn (watch a_of.number None x) n.client.watched = subst (λ (k : View). IsIn (watch a_of.number None x) k.watched) (sym same_client) l.known in
@@ -213,7 +213,7 @@ module _ (g : Over) (c : After-change g) where
       let y_top : bytes_above x.shape q.height ≡ up q.height q.key = ap (bytes_above x.shape) asks.1 ∙ (l.top ∙ up_y) in
       let y_byte : bytes_above x.shape (q.height - 1) ≡ 256 * up q.height q.key + c.args.mismatch.byte = ap (λ (k : ℕ). bytes_above x.shape (k - 1)) asks.1 ∙ (l.byte_is ∙ ap (λ (k : ℕ). 256 * k + c.args.mismatch.byte) up_y) in
       let long = c.change.ensures.long ∙ ap words_of form in
-      let inside = c.if-mismatch-height.false in
+      let inside = c.if-mismatch-position.false in
       let even = h.even in
       link_above q c.change.new.seat.id n.client r_of x a_of c.args.mismatch.byte cr h.content all_own known (c.in-Some-lock_node.free + 4) (c.in-Some-lock_node.free / 4 + 1) (omega (arith, even)) da
       (omega (arith, asks.1, high_a, inside)) some (omega (arith, lower, asks.1)) covers y_top l.low y_byte long changes has.0 named spells mismatch
@@ -226,7 +226,7 @@ module _ (g : Over) (c : After-unlock_again g) where
   linked : (e : View) × (c.unlock_again.new.seat.view ≡ seat_view e c.change.new.seat.view.places c.change.new.seat.view.reads (hold (r_of g led).number (c.in-Some-reclaim.back + 2) (dr g led) ∷ []) c.change.new.seat.view.room) × LinksAgain g.A.Asks.ask (cr g led) c.change.new.seat.view.client (a_of g led).number (da g led) e
   linked =
       let at_a = (first_word (place_at (a_of g led)) c.change.new.seat.book c.in-Some.words.now (wrote g led).are_p c.index-words-0.result c.index-words-0.result (sym c.index-words-0.is)).0 in
-      pair_freed _ _ _ _ _ _ _ _ _ _ (wrote g led) c.index-words-0.result.key at_a (LinksAgain g.A.Asks.ask (cr g led)) c.unlock_again.new.seat.view (c.in-Some-lock_node.free + 4) c.unlock_again.ensures.told
+      pair_freed _ _ _ _ _ _ _ _ _ _ (wrote g led) c.index-words-0.result.key at_a (LinksAgain g.A.Asks.ask (cr g led)) c.unlock_again.new.seat.view (c.in-Some-lock_node.free + 4) c.unlock_again.ensures.freed
 
   grip : Grips c.unlock_again.new.seat.view c.unlock_again.new.seat.book c.in-Some-words_at.others.now c.in-Some-reclaim.back (place_at (r_of g led)) (dr g led)
   grip = record {
@@ -302,27 +302,51 @@ unlock_same-requires-then-not-parts-clause-holds g c =
     } in
     (a g (two_of g k), ca g (two_of g k), one)
 
-pub returns-then-not-parts-clause-told : goal.returns-then-not-parts-clause-told
-returns-then-not-parts-clause-told g c =
-    let k = (goal.at.returns-then-not-parts-clause-told g c).After-retire in
+pub returns-then-not-parts-clause-book : goal.returns-then-not-parts-clause-book
+returns-then-not-parts-clause-book g c =
+    let k = (goal.at.returns-then-not-parts-clause-book g c).After-retire in
+    let b = two_of g k in
+    let pt = c.parts.ensures in
+    let ys = c.retire.ensures.seat in
+    let e = c.unlock_same-then-not-parts.ensures in
+    e.book ∙ (ys.0 ∙ (pt.book ∙ back_book g b))
+
+pub returns-then-not-parts-clause-id : goal.returns-then-not-parts-clause-id
+returns-then-not-parts-clause-id g c =
+    let k = (goal.at.returns-then-not-parts-clause-id g c).After-retire in
+    let b = two_of g k in
+    let pt = c.parts.ensures in
+    let ys = c.retire.ensures.seat in
+    let e = c.unlock_same-then-not-parts.ensures in
+    e.id ∙ (ys.1 ∙ (pt.id ∙ back_id g b))
+
+pub returns-then-not-parts-clause-grown : goal.returns-then-not-parts-clause-grown
+returns-then-not-parts-clause-grown g c =
+    let k = (goal.at.returns-then-not-parts-clause-grown g c).After-retire in
     let b = two_of g k in
     let f = retired g k in
     let alike = back_alike g b in
-    let pt = c.parts.ensures.told in
-    let keeps = pt.2 in
-    let ys = c.retire.ensures.seat in
-    let e = c.unlock_same-then-not-parts.ensures.told in (
-      e.0 ∙ (ys.0 ∙ (pt.0 ∙ back_book g b)),
-      e.1 ∙ (ys.1 ∙ (pt.1 ∙ back_id g b)),
-      record {
-        own = e.2.own;
-        holds = e.2.holds;
-        places = λ i m. subst (λ (ls : List Place). IsIn i ls) (sym (e.2.alike.places ∙ ap (λ (v : Seen). v.places) f.1)) (keeps.places i (subst (λ (ls : List Place). IsIn i ls) (sym alike.places) m));
-        met = λ i m. subst (λ (ls : List Spot). IsIn i ls) (sym (e.2.alike.met ∙ (ap (λ (v : Seen). v.client.met) f.1 ∙ ap (λ (v : View). v.met) f.2))) (keeps.met i (subst (λ (ls : List Spot). IsIn i ls) (sym alike.met) m));
-        seen = e.3 ∙ (ap (λ (v : Seen). v.client.seen) f.1 ∙ (ap (λ (v : View). v.seen) f.2 ∙ (pt.3 ∙ back_seen g b)));
-      },
-      e.2.alike.room ∙ (ap (λ (v : Seen). v.room) f.1 ∙ (keeps.room ∙ alike.room)),
-    )
+    let pt = c.parts.ensures in
+    let keeps = pt.keeps in
+    let e = c.unlock_same-then-not-parts.ensures in
+    record {
+      own = e.rest.own;
+      holds = e.rest.holds;
+      places = λ i m. subst (λ (ls : List Place). IsIn i ls) (sym (e.rest.alike.places ∙ ap (λ (v : Seen). v.places) f.1)) (keeps.places i (subst (λ (ls : List Place). IsIn i ls) (sym alike.places) m));
+      met = λ i m. subst (λ (ls : List Spot). IsIn i ls) (sym (e.rest.alike.met ∙ (ap (λ (v : Seen). v.client.met) f.1 ∙ ap (λ (v : View). v.met) f.2))) (keeps.met i (subst (λ (ls : List Spot). IsIn i ls) (sym alike.met) m));
+      seen = e.seen ∙ (ap (λ (v : Seen). v.client.seen) f.1 ∙ (ap (λ (v : View). v.seen) f.2 ∙ (pt.seen ∙ back_seen g b)));
+    }
+
+pub returns-then-not-parts-clause-room : goal.returns-then-not-parts-clause-room
+returns-then-not-parts-clause-room g c =
+    let k = (goal.at.returns-then-not-parts-clause-room g c).After-retire in
+    let b = two_of g k in
+    let f = retired g k in
+    let alike = back_alike g b in
+    let pt = c.parts.ensures in
+    let keeps = pt.keeps in
+    let e = c.unlock_same-then-not-parts.ensures in
+    e.rest.alike.room ∙ (ap (λ (v : Seen). v.room) f.1 ∙ (keeps.room ∙ alike.room))
 
 pub returns-then-not-parts-clause-free_nodes : goal.returns-then-not-parts-clause-free_nodes
 returns-then-not-parts-clause-free_nodes g c =
@@ -374,31 +398,62 @@ unlock-requires-clause-frees g c =
     let stays = node_stays c.unlock_again.new.seat.id c.unlock_again.new.seat.view.client (again g.A.Asks.ask (r_of g k)) (cr g k) [] own tt (c.in-Some-reclaim.back + 4) (c.in-Some-reclaim.back / 4 + 1) (omega (arith, even)) (dr g k) (sym (same_draft g k)) in
     grip_frees c.unlock_again.new.seat.view c.unlock_again.new.seat.book c.in-Some-words_at.others.now c.in-Some-reclaim.back (place_at (r_of g k)) (dr g k) (grip g u) c.index-others-0-2.result.key at_r StaysSame c.unlock_again.new.seat.id (c.in-Some-reclaim.back + 4) stays
 
-pub returns-clause-told : goal.returns-clause-told
-returns-clause-told g c =
-    let u = (goal.at.returns-clause-told g c).After-unlock_again in
+pub returns-clause-book : goal.returns-clause-book
+returns-clause-book g c =
+    let u = (goal.at.returns-clause-book g c).After-unlock_again in
     let k = led g u in
     let b = held_of g k in
-    let l = linked g u in
-    let alike = back_alike g b in
-    let keeps = c.parts.ensures.told.2 in
     let e = c.unlock.ensures.seat in
     let pr = c.change.ensures.seat.others in
     let mr = c.put.ensures.seat.others in
     let fr = c.lay.ensures.seat.others in
+    e.0 ∙ (c.unlock_again.ensures.seat.0 ∙ (ap (λ s. s.book) pr ∙ (ap (λ s. s.book) mr ∙ (ap (λ s. s.book) fr ∙ (c.parts.ensures.book ∙ back_book g b)))))
+
+pub returns-clause-id : goal.returns-clause-id
+returns-clause-id g c =
+    let u = (goal.at.returns-clause-id g c).After-unlock_again in
+    let k = led g u in
+    let b = held_of g k in
+    let e = c.unlock.ensures.seat in
+    let pr = c.change.ensures.seat.others in
+    let mr = c.put.ensures.seat.others in
+    let fr = c.lay.ensures.seat.others in
+    e.1 ∙ (c.unlock_again.ensures.seat.1 ∙ (ap (λ s. s.id) pr ∙ (ap (λ s. s.id) mr ∙ (ap (λ s. s.id) fr ∙ (c.parts.ensures.id ∙ back_id g b)))))
+
+pub returns-clause-grown : goal.returns-clause-grown
+returns-clause-grown g c =
+    let u = (goal.at.returns-clause-grown g c).After-unlock_again in
+    let k = led g u in
+    let b = held_of g k in
+    let l = linked g u in
+    let alike = back_alike g b in
+    let keeps = c.parts.ensures.keeps in
+    let pr = c.change.ensures.seat.others in
+    let mr = c.put.ensures.seat.others in
+    let fr = c.lay.ensures.seat.others in
     let at_r = (first_word (place_at (r_of g k)) c.unlock_again.new.seat.book c.in-Some-words_at.others.now (grip g u).are c.index-others-0-2.result c.index-others-0-2.result (sym c.index-others-0-2.is)).0 in
-    let fx = grip_freed c.unlock_again.new.seat.view c.unlock_again.new.seat.book c.in-Some-words_at.others.now c.in-Some-reclaim.back (place_at (r_of g k)) (dr g k) (grip g u) c.index-others-0-2.result.key at_r StaysSame c.unlock.new.seat.view (c.in-Some-reclaim.back + 4) c.unlock.ensures.told in
+    let fx = grip_freed c.unlock_again.new.seat.view c.unlock_again.new.seat.book c.in-Some-words_at.others.now c.in-Some-reclaim.back (place_at (r_of g k)) (dr g k) (grip g u) c.index-others-0-2.result.key at_r StaysSame c.unlock.new.seat.view (c.in-Some-reclaim.back + 4) c.unlock.ensures.freed in
     let places = ap (λ s. s.view.places) pr ∙ (ap (λ s. s.view.places) mr ∙ ap (λ s. s.view.places) fr) in
-    let room = ap (λ s. s.view.room) pr ∙ (ap (λ s. s.view.room) mr ∙ (ap (λ s. s.view.room) fr ∙ (keeps.room ∙ alike.room))) in
     let in_places = λ (i : Place) (m : IsIn i c.args.seat.now.view.places). subst (λ (ps : List Place). IsIn i ps) (sym places) (keeps.places i (subst (λ (ps : List Place). IsIn i ps) (sym alike.places) m)) in
     let in_met = λ (i : Spot) (m : IsIn i c.args.seat.now.view.client.met). subst (λ (ls : List Spot). IsIn i ls) (sym (ap (λ (v : View). v.met) (same_client g k))) (keeps.met i (subst (λ (ls : List Spot). IsIn i ls) (sym alike.met) m)) in
-    let seen = ap (λ (v : View). v.seen) (same_client g k) ∙ (c.parts.ensures.told.3 ∙ back_seen g b) in
-    let grown = again_grown_on c.args.seat.now.view c.change.new.seat.view c.unlock_again.new.seat.view c.unlock.new.seat.view l.0 fx.0 g.A.Asks.ask (cr g k) (r_of g k) (a_of g k) (ca g b) (hold (r_of g k).number (c.in-Some-reclaim.back + 2) (dr g k) ∷ []) in_places in_met seen (all_own g k) l.1 l.2 fx.1 fx.2 in (
-      e.0 ∙ (c.unlock_again.ensures.seat.0 ∙ (ap (λ s. s.book) pr ∙ (ap (λ s. s.book) mr ∙ (ap (λ s. s.book) fr ∙ (c.parts.ensures.told.0 ∙ back_book g b))))),
-      e.1 ∙ (c.unlock_again.ensures.seat.1 ∙ (ap (λ s. s.id) pr ∙ (ap (λ s. s.id) mr ∙ (ap (λ s. s.id) fr ∙ (c.parts.ensures.told.1 ∙ back_id g b))))),
-      grown,
-      ap (λ (v : Seen). v.room) fx.1 ∙ (ap (λ (v : Seen). v.room) l.1 ∙ room),
-    )
+    let seen = ap (λ (v : View). v.seen) (same_client g k) ∙ (c.parts.ensures.seen ∙ back_seen g b) in
+    again_grown_on c.args.seat.now.view c.change.new.seat.view c.unlock_again.new.seat.view c.unlock.new.seat.view l.0 fx.0 g.A.Asks.ask (cr g k) (r_of g k) (a_of g k) (ca g b) (hold (r_of g k).number (c.in-Some-reclaim.back + 2) (dr g k) ∷ []) in_places in_met seen (all_own g k) l.1 l.2 fx.1 fx.2
+
+pub returns-clause-room : goal.returns-clause-room
+returns-clause-room g c =
+    let u = (goal.at.returns-clause-room g c).After-unlock_again in
+    let k = led g u in
+    let b = held_of g k in
+    let l = linked g u in
+    let alike = back_alike g b in
+    let keeps = c.parts.ensures.keeps in
+    let pr = c.change.ensures.seat.others in
+    let mr = c.put.ensures.seat.others in
+    let fr = c.lay.ensures.seat.others in
+    let at_r = (first_word (place_at (r_of g k)) c.unlock_again.new.seat.book c.in-Some-words_at.others.now (grip g u).are c.index-others-0-2.result c.index-others-0-2.result (sym c.index-others-0-2.is)).0 in
+    let fx = grip_freed c.unlock_again.new.seat.view c.unlock_again.new.seat.book c.in-Some-words_at.others.now c.in-Some-reclaim.back (place_at (r_of g k)) (dr g k) (grip g u) c.index-others-0-2.result.key at_r StaysSame c.unlock.new.seat.view (c.in-Some-reclaim.back + 4) c.unlock.ensures.freed in
+    let room = ap (λ s. s.view.room) pr ∙ (ap (λ s. s.view.room) mr ∙ (ap (λ s. s.view.room) fr ∙ (keeps.room ∙ alike.room))) in
+    ap (λ (v : Seen). v.room) fx.1 ∙ (ap (λ (v : Seen). v.room) l.1 ∙ room)
 
 pub returns-clause-parted : goal.returns-clause-parted
 returns-clause-parted g c =
@@ -407,8 +462,8 @@ returns-clause-parted g c =
     let b = held_of g k in
     let l = linked g u in
     let at_r = (first_word (place_at (r_of g k)) c.unlock_again.new.seat.book c.in-Some-words_at.others.now (grip g u).are c.index-others-0-2.result c.index-others-0-2.result (sym c.index-others-0-2.is)).0 in
-    let fx = grip_freed c.unlock_again.new.seat.view c.unlock_again.new.seat.book c.in-Some-words_at.others.now c.in-Some-reclaim.back (place_at (r_of g k)) (dr g k) (grip g u) c.index-others-0-2.result.key at_r StaysSame c.unlock.new.seat.view (c.in-Some-reclaim.back + 4) c.unlock.ensures.told in
-    let inside = c.if-mismatch-height.false in
+    let fx = grip_freed c.unlock_again.new.seat.view c.unlock_again.new.seat.book c.in-Some-words_at.others.now c.in-Some-reclaim.back (place_at (r_of g k)) (dr g k) (grip g u) c.index-others-0-2.result.key at_r StaysSame c.unlock.new.seat.view (c.in-Some-reclaim.back + 4) c.unlock.ensures.freed in
+    let inside = c.if-mismatch-position.false in
     λ _. (
       omega (arith, inside),
       again_names c.change.new.seat.view c.unlock_again.new.seat.view c.unlock.new.seat.view l.0 fx.0 g.A.Asks.ask (cr g k) (r_of g k) (a_of g k) (ca g b) (hold (r_of g k).number (c.in-Some-reclaim.back + 2) (dr g k) ∷ []) c.args.key c.args.mismatch.at c.args.spare

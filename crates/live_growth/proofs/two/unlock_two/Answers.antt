@@ -1,9 +1,9 @@
 use Rattle.std.proofs.Common.{sym, ap, refl, arith, [], ◌∷◌, ◌≡◌, ◌+◌, ◌/◌, ◌∙◌}
 use Rattle.live_nodes.specs.Seats.{SeatView, seat_view, hold}
-use Rattle.live_law.specs.Levels.{place_at}
-use Rattle.live_law.specs.Views.{View, locked, rest_of}
-use Rattle.live_law.specs.Tree.{StaysSame}
-use Rattle.live_law.proofs.Writes.{node_stays}
+use Rattle.live_nodes.specs.Levels.{place_at}
+use Rattle.live_nodes.specs.Views.{View, locked, rest_of}
+use Rattle.live_nodes.specs.Tree.{StaysSame}
+use Rattle.live_nodes.proofs.Writes.{node_stays}
 use Rattle.live_reads.proofs.Views.{first_word}
 use Rattle.live_growth.proofs.Locks.{alike_then}
 use Rattle.live_growth.proofs.Twos.{first_frees, first_freed, held_on, alike_freed}
@@ -18,7 +18,7 @@ at_x c = (first_word (place_at c.requires.holds.below) c.args.seat.now.book c.ar
 
 -- the lower one is unlocked
 freed : (c : After-unlock) → (e : View) × (c.unlock.new.seat.view ≡ seat_view e c.args.seat.now.view.places c.args.seat.now.view.reads (hold c.requires.holds.above.number (c.args.two.free_above + 2) c.requires.holds.content_above ∷ []) c.args.seat.now.view.room) × StaysSame c.args.seat.now.view.client c.requires.holds.below.number c.requires.holds.content e
-freed c = first_freed c.requires.holds c.index-words-0.result.key (at_x (goal.at.After-unlock c).After-index-words-0) StaysSame c.unlock.new.seat.view (c.args.two.free + 4) c.unlock.ensures.told
+freed c = first_freed c.requires.holds c.index-words-0.result.key (at_x (goal.at.After-unlock c).After-index-words-0) StaysSame c.unlock.new.seat.view (c.args.two.free + 4) c.unlock.ensures.freed
 
 pub unlock-requires-clause-frees : goal.unlock-requires-clause-frees
 unlock-requires-clause-frees c =
@@ -48,16 +48,14 @@ returns c =
     let w = c.unlock.new.seat.view in
     let f = freed (goal.at.returns c).After-unlock in
     let s = c.unlock.ensures.seat in
-    let t = c.unlock_same.ensures.told in
+    let t = c.unlock_same.ensures in
     record {
-      told = (
-        t.0 ∙ s.0,
-        t.1 ∙ s.1,
-        record {
-          own = t.2.own;
-          holds = t.2.holds;
-          alike = alike_then v w c.unlock_same.new.seat.view (alike_freed v w f.0 _ f.1 (ap (λ (z : View). z.met) f.2)) t.2.alike;
-        },
-        t.3 ∙ (ap (λ (z : Seen). z.client.seen) f.1 ∙ ap (λ (z : View). z.seen) f.2),
-      );
+      book = t.book ∙ s.0;
+      id = t.id ∙ s.1;
+      rest = record {
+        own = t.rest.own;
+        holds = t.rest.holds;
+        alike = alike_then v w c.unlock_same.new.seat.view (alike_freed v w f.0 _ f.1 (ap (λ (z : View). z.met) f.2)) t.rest.alike;
+      };
+      seen = t.seen ∙ (ap (λ (z : Seen). z.client.seen) f.1 ∙ ap (λ (z : View). z.seen) f.2);
     }

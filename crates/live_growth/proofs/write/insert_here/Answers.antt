@@ -6,10 +6,10 @@ use Rattle.live_nodes.specs.Nodes.{Content}
 use Rattle.live_nodes.specs.Seats.{SeatView}
 use Rattle.live_nodes.specs.Rows.{draft_of, nth}
 use Rattle.live_layout.specs.Encodes.{Encodes, words_of, with_child}
-use Rattle.live_law.specs.Levels.{up, digit, Spot, place_at}
-use Rattle.live_law.specs.Views.{View, content_of, inserted}
-use Rattle.live_law.specs.Tree.{IsMap, Inserts, Answers}
-use Rattle.live_law.proofs.Writes.{leaf_inserts}
+use Rattle.live_nodes.specs.Levels.{up, digit, Spot, place_at}
+use Rattle.live_nodes.specs.Views.{View, content_of, inserted}
+use Rattle.live_nodes.specs.Tree.{IsMap, Inserts, Answers}
+use Rattle.live_nodes.proofs.Writes.{leaf_inserts}
 use Rattle.live_reads.specs.Paths.{AreNamed}
 use Rattle.live_growth.specs.Holds.{Alike, HasLocked, HasLockedOpen, HoldsOne}
 use Rattle.live_reads.proofs.Views.{first_word}
@@ -26,7 +26,7 @@ module _ (g : Over) (c : In-Some g) where
   leaf =
       let locked : c.lock_open.result ≡ Some c.in-Some.free = search rules in
       let open_node = HasLockedOpen c.args.seat.now.view c.lock_open.new.seat.view c.args.seat.now.book c.args.here.words.now c.args.here.taken c.args.name c.args.key 1 in
-      (taken_by c.lock_open.result c.in-Some.free locked open_node c.lock_open.ensures.told.2 c.requires.open).0
+      (taken_by c.lock_open.result c.in-Some.free locked open_node c.lock_open.ensures.locked c.requires.open).0
 
   abbrev a : Spot
   a = leaf.names.spot
@@ -36,7 +36,7 @@ module _ (g : Over) (c : In-Some g) where
 
   one : HoldsOne c.lock_open.new.seat.view c.lock_open.new.seat.book c.args.here.words.now c.in-Some.free a content content
   one =
-      let are = subst (λ z. AreNamed z c.args.name c.args.here.words.now) (sym c.lock_open.ensures.told.0) (are_named c.args.seat.now.view c.args.seat.now.book c.args.here.words.now c.args.here.taken c.args.name c.args.key 1 c.requires.open) in
+      let are = subst (λ z. AreNamed z c.args.name c.args.here.words.now) (sym c.lock_open.ensures.book) (are_named c.args.seat.now.view c.args.seat.now.book c.args.here.words.now c.args.here.taken c.args.name c.args.key 1 c.requires.open) in
       holds_one c.args.seat.now.view c.lock_open.new.seat.view c.args.name c.args.key 1 c.in-Some.free leaf c.lock_open.new.seat.book c.args.here.words.now are c.requires.rests.0 c.requires.rests.1
 
   form : c.form_below-form.result ≡ a.shape.form
@@ -69,10 +69,10 @@ module _ (g : Over) (c : After-write g) where
   held = subst (λ z. HoldsOne c.write.new.seat.view z c.args.here.words.now c.in-Some.free (a g l) (content g l) draft) (sym same_book) wrote.0
 
   book : c.write.new.seat.book ≡ c.args.seat.now.book
-  book = same_book ∙ c.lock_open.ensures.told.0
+  book = same_book ∙ c.lock_open.ensures.book
 
   id : c.write.new.seat.id ≡ c.args.seat.now.id
-  id = ap (λ s. s.id) c.write.ensures.seat.others ∙ c.lock_open.ensures.told.1
+  id = ap (λ s. s.id) c.write.ensures.seat.others ∙ c.lock_open.ensures.id
 
   alike : Alike c.args.seat.now.view c.write.new.seat.view
   alike = alike_then c.args.seat.now.view c.lock_open.new.seat.view c.write.new.seat.view (leaf g l).alike wrote.1
@@ -118,15 +118,13 @@ unlock_same-requires-clause-holds g c =
 pub returns-in_default-write : goal.returns-in_default-write
 returns-in_default-write g c =
     let z = (goal.at.returns-in_default-write g c).After-write in
-    let e = c.unlock_same.ensures.told in
+    let e = c.unlock_same.ensures in
     record {
-      told = (
-        e.0 ∙ book g z,
-        e.1 ∙ id g z,
-        record { own = e.2.own; holds = e.2.holds; alike = alike_then c.args.seat.now.view c.write.new.seat.view c.unlock_same.new.seat.view (alike g z) e.2.alike },
-        tt,
-        e.3 ∙ seen g z,
-      );
+      book = e.book ∙ book g z;
+      id = e.id ∙ id g z;
+      rest = record { own = e.rest.own; holds = e.rest.holds; alike = alike_then c.args.seat.now.view c.write.new.seat.view c.unlock_same.new.seat.view (alike g z) e.rest.alike };
+      done = tt;
+      seen = e.seen ∙ seen g z;
     }
 
 pub unlock-requires-clause-free : goal.unlock-requires-clause-free
@@ -160,24 +158,22 @@ returns g c =
     let old = c.in-Some-write.old in
     let x = c.unlock.new.seat.view in
     let e = c.unlock.ensures.seat in
-    let f = is_freed c.write.new.seat.view c.write.new.seat.book c.args.here.words.now c.in-Some.free (a g k) (content g k) (draft g z) (held g z) c.index-words-0.result.key (at_first g i) (Inserts q) x (c.in-Some.free + 4) c.unlock.ensures.told in
+    let f = is_freed c.write.new.seat.view c.write.new.seat.book c.args.here.words.now c.in-Some.free (a g k) (content g k) (draft g z) (held g z) c.index-words-0.result.key (at_first g i) (Inserts q) x (c.in-Some.free + 4) c.unlock.ensures.freed in
     let found = found_leaf q c.byte_at-byte.result c.args.value (digit_is g k) c.requires.asks.1 c.form_below-form.result (content g k) (draft_of (nth 0 c.lock_open.new.seat.view.holds)) (draft g z) (was g k) c.write.result old (some g i) c.write.ensures.is
     h.its h.encodes (h.in_form ∙ sym (form g k)) (deep g k) c.write.new.seat.view.client f.0 (ap content_of (wrote g z).0.own) f.2 in
     let answers = subst (λ (s : List (Entry ℕ) × List (Entry ℕ)). Answers q.caller (inserted q old) s.0 s.1) (λ i. (seen g z i, sym (ap (λ (s : SeatView View). s.client.seen) f.1) i)) found in
     record {
-      told = (
-        e.0 ∙ book g z,
-        e.1 ∙ id g z,
-        record {
-          own = ap (λ (s : SeatView View). s.client.own) f.1 ∙ ap (λ (s : View). s.own) f.2.is;
-          holds = ap (λ (s : SeatView View). s.holds) f.1;
-          alike = alike_then c.args.seat.now.view c.write.new.seat.view x (alike g z) record {
-            places = ap (λ (s : SeatView View). s.places) f.1;
-            met = ap (λ (s : SeatView View). s.client.met) f.1 ∙ ap (λ (s : View). s.met) f.2.is;
-            room = ap (λ (s : SeatView View). s.room) f.1;
-          };
-        },
-        answers,
-        tt,
-      );
+      book = e.0 ∙ book g z;
+      id = e.1 ∙ id g z;
+      rest = record {
+        own = ap (λ (s : SeatView View). s.client.own) f.1 ∙ ap (λ (s : View). s.own) f.2.is;
+        holds = ap (λ (s : SeatView View). s.holds) f.1;
+        alike = alike_then c.args.seat.now.view c.write.new.seat.view x (alike g z) record {
+          places = ap (λ (s : SeatView View). s.places) f.1;
+          met = ap (λ (s : SeatView View). s.client.met) f.1 ∙ ap (λ (s : View). s.met) f.2.is;
+          room = ap (λ (s : SeatView View). s.room) f.1;
+        };
+      };
+      done = answers;
+      seen = tt;
     }

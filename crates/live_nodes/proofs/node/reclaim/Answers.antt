@@ -7,5 +7,5 @@ pub compare_exchange-found-requires-clause-rule : goal.compare_exchange-found-re
 compare_exchange-found-requires-clause-rule g c = let s = c.args.seat.now in
     reclaims g.L.NodeLaw.root g.L.NodeLaw.holds s.id s.view c.args.word.now.key g.M.OnLock.told c.args.obsolete c.requires.obsolete.0 c.requires.locks
 
-pub returns-clause-told : goal.returns-clause-told
-returns-clause-told g c = let r = c.compare_exchange-found.result in (r.0, joined r.1.next r.1.left, search rules, c.compare_exchange-found.ensures.told)
+pub returns-clause-locked : goal.returns-clause-locked
+returns-clause-locked g c = let r = c.compare_exchange-found.result in (r.0, joined r.1.next r.1.left, search rules, c.compare_exchange-found.ensures.view)

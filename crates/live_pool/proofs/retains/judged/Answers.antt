@@ -1,5 +1,5 @@
 use Rattle.std.proofs.Common.{rules, of_calls, ℕ, suc, Option, None, Ok, Err, refl, subst, inl, inr}
-use Rattle.live_law.specs.Known.{MadeCall}
+use Rattle.live_nodes.specs.Known.{MadeCall}
 use Rattle.live_updates.specs.Entries.{swapped}
 use Rattle.live_pool.proofs.retains.judged.Goals as goal
 

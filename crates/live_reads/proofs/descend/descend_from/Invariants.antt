@@ -1,5 +1,5 @@
 use Rattle.std.proofs.Common.{◌≡◌, false}
-use Rattle.live_law.specs.Views.{ask}
+use Rattle.live_nodes.specs.Views.{ask}
 use Rattle.live_reads.specs.Paths.{IsOpen, Keeps}
 use Rattle.live_reads.specs.Positions.{KnowsPosition}
 use Rattle.live_reads.proofs.descend.descend_from.Given as goal

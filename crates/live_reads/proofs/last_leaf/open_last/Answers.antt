@@ -8,5 +8,5 @@ returns-clause-open c =
     let k = c.requires.last (omega (arith, some)) in
     let v = c.args.seat.now.view in
     let w = c.enter.new.seat.view in
-    let beside = position_beside w c.args.last.key c.args.key c.args.last.position (omega (arith, c.if-last-key.false)) (position_kept v w c.args.last.key c.args.last.position c.enter.ensures.told.2 k.0) in
+    let beside = position_beside w c.args.last.key c.args.key c.args.last.position (omega (arith, c.if-last-key.false)) (position_kept v w c.args.last.key c.args.last.position c.enter.ensures.keeps k.0) in
     opened_last c.enter.result w c.enter.new.seat.book c.args.key c.args.last.position beside k.1 c.enter.ensures.open

@@ -1,6 +1,6 @@
 use Rattle.std.proofs.Common.{sym, subst, ℕ}
 use Rattle.live_nodes.specs.Acts as acts
-use Rattle.live_law.specs.Tree.{IsMap}
+use Rattle.live_nodes.specs.Tree.{IsMap}
 use Rattle.live_reads.specs.Meetings.{HaveMet}
 use Rattle.live_reads.proofs.Meetings.{both_meet}
 use Rattle.live_reads.proofs.meeting.meet.Goals as goal

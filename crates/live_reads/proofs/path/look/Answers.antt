@@ -3,7 +3,7 @@ use Rattle.spec_map.specs.Map.{lookup}
 use Rattle.live_layout.specs.Encodes.{words_of, IsBelow}
 use Rattle.live_nodes.specs.Rows.{last_saw, without_reads}
 use Rattle.live_nodes.specs.Seats.{Agree}
-use Rattle.live_law.specs.Levels.{place_at}
+use Rattle.live_nodes.specs.Levels.{place_at}
 use Rattle.live_reads.proofs.Views.{first_word, may_read_open, may_look, look_missed, look_ends}
 use Rattle.live_reads.proofs.path.look.Given.{Over}
 use Rattle.live_reads.proofs.path.look.Goals as goal
@@ -45,19 +45,19 @@ pub returns-then-not-check : goal.returns-then-not-check
 returns-then-not-check g c =
     let at = goal.at.returns-then-not-check g c in
     let k = at.After-check in
-    let told = c.check.ensures.told in
+    let told = c.check.ensures.checked in
     let keeps = look_missed c.args.seat.now.view c.args.seat.now.book c.args.here.words.now c.args.here.taken c.args.name c.args.key c.args.height c.requires.open c.find-found.new.seat.view (rest g at.After-find-found)
     c.index-words-0.result.key (at_first g k) g.A.Asks.reads g.A.Asks.ask c.requires.asks.0 c.check.new.seat.view told.0 told.2 (search rules) in
-    record { told = (book g k, id g k, keeps.0, keeps.1) }
+    record { book = book g k; id = id g k; keeps = keeps.0; looked = keeps.1 }
 
 pub returns : goal.returns
 returns g c =
     let at = goal.at.returns g c in
     let k = at.After-check in
-    let told = c.check.ensures.told in
+    let told = c.check.ensures.checked in
     let o = c.requires.open in
     let form = c.form_below-form.ensures o.names.spot.shape.key o.names.spot.shape.form o.names.named in
     let ends = look_ends c.args.seat.now.view c.args.seat.now.book c.args.here.words.now c.args.here.taken c.args.name c.args.key c.args.height o c.find-found.new.seat.view (rest g at.After-find-found)
     c.index-words-0.result.key (at_first g k) g.A.Asks.reads g.A.Asks.ask c.requires.asks.0 c.check.new.seat.view told.0 told.2 (search rules) (λ content agrees. subst (λ z. Agree content (last_saw z)) o.opened.reads (c.find-found.ensures.kept content agrees)) c.find-found.result
     (λ content n agrees encodes formed. subst (λ z. IsBelow (lookup n.children z) c.find-found.result) c.byte_at-byte.ensures (c.find-found.ensures.is content n agrees encodes (formed ∙ sym form))) in
-    record { told = (book g k, id g k, ends.0, ends.1) }
+    record { book = book g k; id = id g k; keeps = ends.0; looked = ends.1 }

@@ -1,4 +1,4 @@
-use Rattle.live_law.proofs.Begun.{begins_there}
+use Rattle.live_nodes.proofs.Begun.{begins_there}
 use Rattle.live_reads.proofs.path.root_begun.Goals as goal
 
 pub root_by-requires-clause-learns : goal.root_by-requires-clause-learns

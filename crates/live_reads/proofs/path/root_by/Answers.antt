@@ -1,7 +1,7 @@
 use Rattle.std.proofs.Common.{rules, arith, sym, ap, subst, ℕ, [], ◌∷◌, ◌≡◌, ◌∙◌}
 use Rattle.word_book.specs.Book.{Name, name}
-use Rattle.live_law.specs.Views.{View}
-use Rattle.live_law.specs.Roots.{MayLearnRoot}
+use Rattle.live_nodes.specs.Views.{View}
+use Rattle.live_nodes.specs.Roots.{MayLearnRoot}
 use Rattle.live_reads.proofs.Views.{reading, root_word_place, root_word_taken, root_word_read, root_word_cell, reading_keeps}
 use Rattle.live_reads.proofs.Roots.{may_check_root, root_missed, root_none, root_names}
 use Rattle.live_reads.proofs.path.root_by.Given.{Over}
@@ -21,8 +21,8 @@ module _ (g : Over) (c : After-read-name g) where
   was_read : c.read-name.new.seat.view ≡ reading c.args.seat.now.view 0 c.take-taken.result ((0, c.read-name.result) ∷ [])
   was_read =
       let at = goal.at.After-read-name g c in
-      root_word_read c.args.seat.now.view c.requires.root_word c.index-words-0.result.key (first g at.After-index-words-1) c.take-taken.new.seat.view c.take-taken.result c.take-taken.ensures.told
-      c.index-words-1.result.key (second g at.After-index-words-1) c.read-name.new.seat.view c.read-name.result c.read-name.ensures.told
+      root_word_read c.args.seat.now.view c.requires.root_word c.index-words-0.result.key (first g at.After-index-words-1) c.take-taken.new.seat.view c.take-taken.result c.take-taken.ensures.taken
+      c.index-words-1.result.key (second g at.After-index-words-1) c.read-name.new.seat.view c.read-name.result c.read-name.ensures.read
 
 -- and the first is compared
 module _ (g : Over) (c : After-check g) where
@@ -47,13 +47,13 @@ returns-then-taken-ne0 g c =
     let v₁ = c.take-taken.new.seat.view in
     let n = c.take-taken.result in
     let one = first g (goal.at.returns-then-taken-ne0 g c).After-index-words-1 in
-    let keeps = reading_keeps v v₁ 0 n [] (root_word_taken v c.requires.root_word c.index-words-0.result.key one v₁ n c.take-taken.ensures.told) in
-    record { told = (c.take-taken.ensures.seat.0, c.take-taken.ensures.seat.1, keeps.0, ap (λ (z : View). z.seen) keeps.1, tt) }
+    let keeps = reading_keeps v v₁ 0 n [] (root_word_taken v c.requires.root_word c.index-words-0.result.key one v₁ n c.take-taken.ensures.taken) in
+    record { book = c.take-taken.ensures.seat.0; id = c.take-taken.ensures.seat.1; keeps = keeps.0; root = ap (λ (z : View). z.seen) keeps.1; named = tt }
 
 pub read-name-requires-clause-known : goal.read-name-requires-clause-known
 read-name-requires-clause-known g c =
     let at = goal.at.read-name-requires-clause-known g c in
-    root_word_cell c.args.seat.now.view c.requires.root_word c.index-words-0.result.key (first g at.After-index-words-1) c.take-taken.new.seat.view c.take-taken.result c.take-taken.ensures.told
+    root_word_cell c.args.seat.now.view c.requires.root_word c.index-words-0.result.key (first g at.After-index-words-1) c.take-taken.new.seat.view c.take-taken.result c.take-taken.ensures.taken
     c.index-words-1.result.key (second g at.After-index-words-1)
 
 pub check-requires-clause-learns : goal.check-requires-clause-learns
@@ -66,20 +66,20 @@ check-requires-clause-learns g c =
 pub returns-then-not-check : goal.returns-then-not-check
 returns-then-not-check g c =
     let k = (goal.at.returns-then-not-check g c).After-check in
-    let t = c.check.ensures.told in
+    let t = c.check.ensures.checked in
     let keeps = root_missed g.S.Sees.sees c.requires.root_word (was_read g (read_it g k)) c.index-words-0.result.key (one g k) c.check.new.seat.view t.0 t.2 (search rules) in
-    record { told = (book g k, id g k, keeps.0, ap (λ (z : View). z.seen) keeps.1, tt) }
+    record { book = book g k; id = id g k; keeps = keeps.0; root = ap (λ (z : View). z.seen) keeps.1; named = tt }
 
 pub returns-then-name-eq0 : goal.returns-then-name-eq0
 returns-then-name-eq0 g c =
     let k = (goal.at.returns-then-name-eq0 g c).After-check in
-    let t = c.check.ensures.told in
+    let t = c.check.ensures.checked in
     let keeps = root_none g.S.Sees.sees c.requires.root_word (was_read g (read_it g k)) c.index-words-0.result.key (one g k) c.check.new.seat.view t.0 t.2 (search rules) (search rules) in
-    record { told = (book g k, id g k, keeps.0, ap (λ (z : View). z.seen) keeps.1, tt) }
+    record { book = book g k; id = id g k; keeps = keeps.0; root = ap (λ (z : View). z.seen) keeps.1; named = tt }
 
 pub returns : goal.returns
 returns g c =
     let k = (goal.at.returns g c).After-check in
-    let t = c.check.ensures.told in
+    let t = c.check.ensures.checked in
     let names = root_names g.S.Sees.sees c.requires.root_word (was_read g (read_it g k)) c.index-words-0.result.key (one g k) c.check.new.seat.view t.0 t.2 (search rules) (omega (arith, c.if-name-eq0.false)) c.args.key c.ranges.key.fits in
-    record { told = (book g k, id g k, names.0, names.1, names.2) }
+    record { book = book g k; id = id g k; keeps = names.0; root = names.1; named = names.2 }

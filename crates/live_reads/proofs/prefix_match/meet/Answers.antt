@@ -1,8 +1,8 @@
 use Rattle.std.proofs.Common.{rules, arith, refl, sym, ap, subst, get_or, ◌≡◌, ◌/◌, ◌∙◌}
 use Rattle.word_book.specs.Book.{Name}
 use Rattle.live_nodes.specs.Rows.{last_saw, without_reads}
-use Rattle.live_law.specs.Levels.{place_at}
-use Rattle.live_law.specs.Views.{View}
+use Rattle.live_nodes.specs.Levels.{place_at}
+use Rattle.live_nodes.specs.Views.{View}
 use Rattle.live_reads.specs.Paths.{HasOpened, Keeps, Sights}
 use Rattle.live_reads.proofs.Finds.{keeps_then}
 use Rattle.live_reads.proofs.Views.{first_word, may_read_open, open_long, IsHeaded, may_meet, meet_missed, meet_head}
@@ -13,7 +13,7 @@ use Rattle.live_reads.proofs.prefix_match.meet.Goals.{In_ok-here, After-word-hea
 -- THE NODE is open
 module _ (c : In_ok-here) where
   abbrev kept : Sights c.open.new.seat.view c.args.name
-  kept = sights_kept c.args.seat.now.view c.open.new.seat.view c.open.ensures.told.2 c.args.name c.requires.sighted
+  kept = sights_kept c.args.seat.now.view c.open.new.seat.view c.open.ensures.keeps c.args.name c.requires.sighted
 
   abbrev opened : HasOpened c.open.new.seat.view c.open.new.seat.book c.in_ok-here.here.words.now c.in_ok-here.here.taken c.requires.sighted.spot
   opened = c.in_ok-here.ensures.opened.1 c.requires.sighted
@@ -40,18 +40,18 @@ module _ (c : After-check) where
   told : Keeps c.open.new.seat.view c.check.new.seat.view → c.check.new.seat.view.client.seen ≡ c.open.new.seat.view.client.seen → Told
   told keeps seen =
       let r = c.word-head.ensures.seat.others in
-      let o = c.open.ensures.told in (
-        c.check.ensures.seat.0 ∙ (ap (λ s. s.book) r ∙ o.0),
-        c.check.ensures.seat.1 ∙ (ap (λ s. s.id) r ∙ o.1),
-        keeps_then c.args.seat.now.view c.open.new.seat.view c.check.new.seat.view o.2 keeps,
-        seen ∙ ap (λ (z : View). z.seen) o.3,
+      let o = c.open.ensures in (
+        c.check.ensures.seat.0 ∙ (ap (λ s. s.book) r ∙ o.book),
+        c.check.ensures.seat.1 ∙ (ap (λ s. s.id) r ∙ o.id),
+        keeps_then c.args.seat.now.view c.open.new.seat.view c.check.new.seat.view o.keeps keeps,
+        seen ∙ ap (λ (z : View). z.seen) o.client,
       )
 
-  headed : c.check.ensures.told.0 ≡ c.in_ok-here.here.taken
+  headed : c.check.ensures.checked.0 ≡ c.in_ok-here.here.taken
       → Keeps c.open.new.seat.view c.check.new.seat.view × (c.check.new.seat.view.client.seen ≡ c.open.new.seat.view.client.seen)
       × IsHeaded c.check.new.seat.view c.open.new.seat.book c.in_ok-here.here.words.now c.in_ok-here.here.taken c.args.name (last_saw c.word-head.new.seat.view.reads)
   headed hit = meet_head c.open.new.seat.view c.open.new.seat.book c.in_ok-here.here.words.now c.in_ok-here.here.taken c.args.name (kept (here read)) (opened (here read)) c.word-head.new.seat.view (rest read)
-      (get_or c.in_ok-here.here.words.now 0 c.index-here-0.result).key (at_first read c.index-here-0.result) c.check.new.seat.view c.check.ensures.told.0 c.check.ensures.told.2 hit
+      (get_or c.in_ok-here.here.words.now 0 c.index-here-0.result).key (at_first read c.index-here-0.result) c.check.new.seat.view c.check.ensures.checked.0 c.check.ensures.checked.2 hit
 
 pub word-head-requires-clause-may : goal.word-head-requires-clause-may
 word-head-requires-clause-may c =
@@ -70,19 +70,61 @@ check-requires-clause-learns c =
     may_meet c.open.new.seat.view c.open.new.seat.book c.in_ok-here.here.words.now c.in_ok-here.here.taken c.args.name (kept (here r)) (opened (here r)) c.word-head.new.seat.view (rest r)
     (get_or c.in_ok-here.here.words.now 0 c.index-here-0.result).key (at_first r c.index-here-0.result) c.word-head.new.seat.id (c.in_ok-here.here.taken / 4) (omega (arith, free))
 
-pub returns-then-not-check-clause-told : goal.returns-then-not-check-clause-told
-returns-then-not-check-clause-told c =
-    let k = (goal.at.returns-then-not-check-clause-told c).After-check in
+pub returns-then-not-check-clause-book : goal.returns-then-not-check-clause-book
+returns-then-not-check-clause-book c =
+    let k = (goal.at.returns-then-not-check-clause-book c).After-check in
     let r = read k in
     let missed = meet_missed c.open.new.seat.view c.open.new.seat.book c.in_ok-here.here.words.now c.in_ok-here.here.taken c.args.name (kept (here r)) (opened (here r)) c.word-head.new.seat.view (rest r)
-    (get_or c.in_ok-here.here.words.now 0 c.index-here-0.result).key (at_first r c.index-here-0.result) c.check.new.seat.view c.check.ensures.told.0 c.check.ensures.told.2 (search rules) in
-    told k missed.0 (ap (λ (z : View). z.seen) missed.1)
+    (get_or c.in_ok-here.here.words.now 0 c.index-here-0.result).key (at_first r c.index-here-0.result) c.check.new.seat.view c.check.ensures.checked.0 c.check.ensures.checked.2 (search rules) in
+    (told k missed.0 (ap (λ (z : View). z.seen) missed.1)).0
 
-pub returns-clause-told : goal.returns-clause-told
-returns-clause-told c =
-    let k = (goal.at.returns-clause-told c).After-check in
+pub returns-then-not-check-clause-id : goal.returns-then-not-check-clause-id
+returns-then-not-check-clause-id c =
+    let k = (goal.at.returns-then-not-check-clause-id c).After-check in
+    let r = read k in
+    let missed = meet_missed c.open.new.seat.view c.open.new.seat.book c.in_ok-here.here.words.now c.in_ok-here.here.taken c.args.name (kept (here r)) (opened (here r)) c.word-head.new.seat.view (rest r)
+    (get_or c.in_ok-here.here.words.now 0 c.index-here-0.result).key (at_first r c.index-here-0.result) c.check.new.seat.view c.check.ensures.checked.0 c.check.ensures.checked.2 (search rules) in
+    (told k missed.0 (ap (λ (z : View). z.seen) missed.1)).1
+
+pub returns-then-not-check-clause-keeps : goal.returns-then-not-check-clause-keeps
+returns-then-not-check-clause-keeps c =
+    let k = (goal.at.returns-then-not-check-clause-keeps c).After-check in
+    let r = read k in
+    let missed = meet_missed c.open.new.seat.view c.open.new.seat.book c.in_ok-here.here.words.now c.in_ok-here.here.taken c.args.name (kept (here r)) (opened (here r)) c.word-head.new.seat.view (rest r)
+    (get_or c.in_ok-here.here.words.now 0 c.index-here-0.result).key (at_first r c.index-here-0.result) c.check.new.seat.view c.check.ensures.checked.0 c.check.ensures.checked.2 (search rules) in
+    (told k missed.0 (ap (λ (z : View). z.seen) missed.1)).2
+
+pub returns-then-not-check-clause-seen : goal.returns-then-not-check-clause-seen
+returns-then-not-check-clause-seen c =
+    let k = (goal.at.returns-then-not-check-clause-seen c).After-check in
+    let r = read k in
+    let missed = meet_missed c.open.new.seat.view c.open.new.seat.book c.in_ok-here.here.words.now c.in_ok-here.here.taken c.args.name (kept (here r)) (opened (here r)) c.word-head.new.seat.view (rest r)
+    (get_or c.in_ok-here.here.words.now 0 c.index-here-0.result).key (at_first r c.index-here-0.result) c.check.new.seat.view c.check.ensures.checked.0 c.check.ensures.checked.2 (search rules) in
+    (told k missed.0 (ap (λ (z : View). z.seen) missed.1)).3
+
+pub returns-clause-book : goal.returns-clause-book
+returns-clause-book c =
+    let k = (goal.at.returns-clause-book c).After-check in
     let h = headed k (search rules) in
-    told k h.0 h.1
+    (told k h.0 h.1).0
+
+pub returns-clause-id : goal.returns-clause-id
+returns-clause-id c =
+    let k = (goal.at.returns-clause-id c).After-check in
+    let h = headed k (search rules) in
+    (told k h.0 h.1).1
+
+pub returns-clause-keeps : goal.returns-clause-keeps
+returns-clause-keeps c =
+    let k = (goal.at.returns-clause-keeps c).After-check in
+    let h = headed k (search rules) in
+    (told k h.0 h.1).2
+
+pub returns-clause-seen : goal.returns-clause-seen
+returns-clause-seen c =
+    let k = (goal.at.returns-clause-seen c).After-check in
+    let h = headed k (search rules) in
+    (told k h.0 h.1).3
 
 pub returns-clause-met : goal.returns-clause-met
 returns-clause-met c =

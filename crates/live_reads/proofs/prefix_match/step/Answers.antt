@@ -7,43 +7,43 @@ pub meet-requires-clause-sighted : goal.meet-requires-clause-sighted
 meet-requires-clause-sighted g c =
     let v = c.args.seat.now.view in
     let w = c.look.new.seat.view in
-    let t = c.look.ensures.told in
+    let t = c.look.ensures in
     let some : c.look.result ≡ Some (Some c.in-Some.word) = search rules in
-    let below = looked_below g.A.Asks.reads g.A.Asks.ask c.args.height c.look.result c.in-Some.word v w c.requires.height.0 t.3 some in
+    let below = looked_below g.A.Asks.reads g.A.Asks.ask c.args.height c.look.result c.in-Some.word v w c.requires.height.0 t.looked some in
     subst (λ n. Sights w n) (sym (c.slot_below-below.ensures below.1.0 below.1.1)) below.1.2
 
-pub returns-in_err-met-clause-told : goal.returns-in_err-met-clause-told
-returns-in_err-met-clause-told g c =
+pub returns-in_err-met-clause-keeps : goal.returns-in_err-met-clause-keeps
+returns-in_err-met-clause-keeps g c =
     let v = c.args.seat.now.view in
     let w = c.look.new.seat.view in
     let x = c.meet.new.seat.view in
-    let t = c.look.ensures.told in
-    let m = c.meet.ensures.told in
-    (m.0 ∙ t.0, m.1 ∙ t.1, keeps_then v w x t.2 m.2)
+    let t = c.look.ensures in
+    let m = c.meet.ensures in
+    keeps_then v w x t.keeps m.keeps
 
-pub returns-in-Covers-clause-told : goal.returns-in-Covers-clause-told
-returns-in-Covers-clause-told g c =
+pub returns-in-Covers-clause-keeps : goal.returns-in-Covers-clause-keeps
+returns-in-Covers-clause-keeps g c =
     let v = c.args.seat.now.view in
     let w = c.look.new.seat.view in
     let x = c.meet.new.seat.view in
-    let t = c.look.ensures.told in
-    let m = c.meet.ensures.told in
-    (m.0 ∙ t.0, m.1 ∙ t.1, keeps_then v w x t.2 m.2)
+    let t = c.look.ensures in
+    let m = c.meet.ensures in
+    keeps_then v w x t.keeps m.keeps
 
-pub returns-in-Covers-2-clause-told : goal.returns-in-Covers-2-clause-told
-returns-in-Covers-2-clause-told g c =
+pub returns-in-Covers-2-clause-keeps : goal.returns-in-Covers-2-clause-keeps
+returns-in-Covers-2-clause-keeps g c =
     let v = c.args.seat.now.view in
     let w = c.look.new.seat.view in
     let x = c.meet.new.seat.view in
-    let t = c.look.ensures.told in
-    let m = c.meet.ensures.told in
-    (m.0 ∙ t.0, m.1 ∙ t.1, keeps_then v w x t.2 m.2)
+    let t = c.look.ensures in
+    let m = c.meet.ensures in
+    keeps_then v w x t.keeps m.keeps
 
-pub returns-in-Leaves-clause-told : goal.returns-in-Leaves-clause-told
-returns-in-Leaves-clause-told g c =
+pub returns-in-Leaves-clause-keeps : goal.returns-in-Leaves-clause-keeps
+returns-in-Leaves-clause-keeps g c =
     let v = c.args.seat.now.view in
     let w = c.look.new.seat.view in
     let x = c.meet.new.seat.view in
-    let t = c.look.ensures.told in
-    let m = c.meet.ensures.told in
-    (m.0 ∙ t.0, m.1 ∙ t.1, keeps_then v w x t.2 m.2)
+    let t = c.look.ensures in
+    let m = c.meet.ensures in
+    keeps_then v w x t.keeps m.keeps

@@ -4,9 +4,9 @@ use native.Mathlib.Decide.{ℕ_discrete}
 use Rattle.word_book.specs.Book.{reads, none_joined}
 use Rattle.live_nodes.specs.Plays.{Checks}
 use Rattle.live_nodes.specs.Calls.{MayCheck}
-use Rattle.live_law.specs.Levels.{place_at}
-use Rattle.live_law.specs.Views.{View}
-use Rattle.live_law.specs.Tree.{IsMap, LearnsBelow}
+use Rattle.live_nodes.specs.Levels.{place_at}
+use Rattle.live_nodes.specs.Views.{View}
+use Rattle.live_nodes.specs.Tree.{IsMap, LearnsBelow}
 use Rattle.live_reads.proofs.Views.{first_word}
 use Rattle.live_scans.proofs.Nexts.{may_watch_again, again_missed, again_keeps, again_next}
 use Rattle.live_scans.proofs.beside.watch_again.Goals as goal
@@ -40,7 +40,7 @@ returns g c =
     let t = c.args.here.taken in
     let first = c.index-words-0.result in
     let at_k = (first_word (place_at f.child.sighted.spot) b others f.child.opened.are first first (sym c.index-words-0.is)).0 in
-    let tells = c.check.ensures.told in
+    let tells = c.check.ensures.checked in
     let seat = c.check.ensures.seat in
     let above = c.requires.above.0 ∙ f.second in
     let told : Checks (LearnsBelow f.names.spot.number (Some t)) (reads first.key) v tells.0 none_joined w = subst (λ (z : ℕ × Option ℕ). Checks (LearnsBelow z.0 z.1) (reads first.key) v tells.0 none_joined w) (λ i. (above i, c.requires.above.1 i)) tells.2 in

@@ -1,6 +1,6 @@
 use Rattle.std.proofs.Common.{rules, subst, inr, ◌≡◌}
 use Rattle.live_nodes.specs.Seats.{place}
-use Rattle.live_law.specs.Known.{Known}
+use Rattle.live_nodes.specs.Known.{Known}
 use Rattle.live_growth.specs.Calls.{known_of}
 use Rattle.live_reads.proofs.Finds.{keeps_then}
 use Rattle.live_growth.proofs.Ready.{ready_kept}

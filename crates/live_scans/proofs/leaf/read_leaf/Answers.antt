@@ -2,8 +2,8 @@ use Rattle.std.proofs.Common.{rules, arith, sym, ap, subst, ◌≡◌, ◌+◌, 
 use Rattle.live_nodes.specs.Seats.{Agree}
 use Rattle.live_nodes.specs.Rows.{last_saw}
 use Rattle.live_layout.specs.Encodes.{words_of}
-use Rattle.live_law.specs.Levels.{place_at}
-use Rattle.live_law.specs.Views.{View}
+use Rattle.live_nodes.specs.Levels.{place_at}
+use Rattle.live_nodes.specs.Views.{View}
 use Rattle.live_reads.proofs.Views.{first_word, may_read_open}
 use Rattle.live_scans.specs.inner.Moments.{IsRead}
 use Rattle.live_scans.proofs.Wholes.{may_leaf, leaf_missed, leaf_hit}
@@ -48,7 +48,7 @@ returns-then-not-check g c =
     let d = (goal.at.returns-then-not-check g c).After-index-words-0 in
     let v = c.args.seat.now.view in
     let w = c.check.new.seat.view in
-    let tells = c.check.ensures.told in
+    let tells = c.check.ensures.checked in
     let seat = c.check.ensures.seat in
     let missed = leaf_missed v c.args.seat.now.book c.args.leaf.words.now c.args.leaf.taken c.args.name (c.args.part.base + c.args.part.first) c.requires.open c.fill_on-filled.new.seat.view (ap (λ s. s.view) c.fill_on-filled.ensures.seat.others) c.index-words-0.result.key (at_word g d) g.A.Asks.ask.caller w tells.0 tells.2 (search rules) in record {
       before = c.fill_on-filled.ensures.before;
@@ -73,7 +73,7 @@ returns g c =
     let t = c.args.leaf.taken in
     let l = c.requires.open in
     let spot = l.sighted.spot in
-    let tells = c.check.ensures.told in
+    let tells = c.check.ensures.checked in
     let seat = c.check.ensures.seat in
     let hit = leaf_hit v c.args.seat.now.book c.args.leaf.words.now t c.args.name (p.base + p.first) l v₂ (ap (λ s. s.view) c.fill_on-filled.ensures.seat.others) c.index-words-0.result.key (at_word g d) g.A.Asks.ask.caller w tells.0 tells.2 (search rules) (λ content agrees. subst (λ z. Agree content (last_saw z)) l.opened.reads (c.fill_on-filled.ensures.kept content agrees)) in
     let x = subst (λ z. IsRead z v.client spot hit.shape t (last_saw v₂.reads) w.client) c.requires.asks hit.read in

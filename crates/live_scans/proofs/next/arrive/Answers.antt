@@ -1,8 +1,8 @@
 use Rattle.std.proofs.Common.{arith, sym, ap, ◌/◌, ◌≡◌}
 use mathlib.Core.Logic.{dite}
 use native.Mathlib.Decide.{ℕ_discrete}
-use Rattle.live_law.specs.Levels.{place_at}
-use Rattle.live_law.specs.Views.{View}
+use Rattle.live_nodes.specs.Levels.{place_at}
+use Rattle.live_nodes.specs.Views.{View}
 use Rattle.live_reads.proofs.Views.{first_word}
 use Rattle.live_scans.proofs.Nexts.{may_arrive, arrive_missed, arrive_keeps, arrive_open, arrive_lower}
 use Rattle.live_scans.proofs.next.arrive.Goals as goal
@@ -34,7 +34,7 @@ returns c =
     let f = c.requires.lower in
     let at_k = at_word (goal.at.returns c).After-index-words-0 in
     let key = c.index-words-0.result.key in
-    let tells = c.check.ensures.told in
+    let tells = c.check.ensures.checked in
     let seat = c.check.ensures.seat in
     let w = c.check.new.seat.view in
     let missed = arrive_missed c.args.up v b words taken c.args.at c.args.child l.node others t f key at_k w tells.0 tells.2 in

@@ -1,8 +1,8 @@
 use Rattle.std.proofs.Common.{true, rules, arith, refl, sym, ap, subst, ◌≡◌, ◌+◌, ◌/◌}
 use Rattle.live_nodes.specs.Seats.{Agree}
 use Rattle.live_nodes.specs.Rows.{last_saw}
-use Rattle.live_law.specs.Levels.{place_at}
-use Rattle.live_law.specs.Views.{View}
+use Rattle.live_nodes.specs.Levels.{place_at}
+use Rattle.live_nodes.specs.Views.{View}
 use Rattle.live_reads.specs.Paths.{Keeps}
 use Rattle.live_reads.proofs.Views.{first_word}
 use Rattle.live_scans.specs.inner.Moments.{IsRead, IsWithin}
@@ -23,13 +23,13 @@ module _ (g : Over) (c : After-index-words-0 g) where
 
 -- THE NODE is what it was
 module _ (g : Over) (c : After-check g) where
-  checked : c.check.ensures.told.0 ≡ c.args.here.taken → Keeps c.args.seat.now.view c.check.new.seat.view × IsRead c.args.seat.now.id c.args.seat.now.view.client c.requires.near.here.names.spot c.requires.near.here.names.spot.shape c.args.here.taken (last_saw c.args.seat.now.view.reads) c.check.new.seat.view.client
+  checked : c.check.ensures.checked.0 ≡ c.args.here.taken → Keeps c.args.seat.now.view c.check.new.seat.view × IsRead c.args.seat.now.id c.args.seat.now.view.client c.requires.near.here.names.spot c.requires.near.here.names.spot.shape c.args.here.taken (last_saw c.args.seat.now.view.reads) c.check.new.seat.view.client
   checked same =
       let v = c.args.seat.now.view in
       let n = c.requires.near in
       let spot = n.here.names.spot in
       let t = c.args.here.taken in
-      let tells = c.check.ensures.told in
+      let tells = c.check.ensures.checked in
       let w = c.check.new.seat.view in
       let hit = whole_hit v c.args.seat.now.book c.args.here.words.now t c.args.at.name c.args.at.key c.args.at.height n.here v refl c.index-words-0.result.key (at_word g (goal.at.After-check g c).After-index-words-0) g.A.Asks.ask.caller w tells.0 tells.2 same (λ content agrees. subst (Agree content) (ap last_saw n.here.opened.reads) agrees) in
       (hit.0, subst (λ z. IsRead z v.client spot spot.shape t (last_saw v.reads) w.client) c.requires.asks hit.1)
@@ -45,7 +45,7 @@ pub returns-then-not-check : goal.returns-then-not-check
 returns-then-not-check g c =
     let v = c.args.seat.now.view in
     let n = c.requires.near in
-    let tells = c.check.ensures.told in
+    let tells = c.check.ensures.checked in
     let seat = c.check.ensures.seat in
     let w = c.check.new.seat.view in
     let missed = whole_missed v c.args.seat.now.book c.args.here.words.now c.args.here.taken c.args.at.name c.args.at.key c.args.at.height n.here v refl c.index-words-0.result.key (at_word g (goal.at.returns-then-not-check g c).After-index-words-0) g.A.Asks.ask.caller w tells.0 tells.2 (search rules) in

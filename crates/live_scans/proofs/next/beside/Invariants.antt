@@ -1,5 +1,5 @@
 use Rattle.std.proofs.Common.{Some, false}
-use Rattle.live_law.specs.Views.{ask}
+use Rattle.live_nodes.specs.Views.{ask}
 use Rattle.live_reads.specs.Mismatches.{first_number}
 use Rattle.live_scans.proofs.next.beside.Given as goal
 

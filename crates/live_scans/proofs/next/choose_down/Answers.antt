@@ -1,6 +1,6 @@
 use Rattle.std.proofs.Common.{arith, refl, sym, subst, ◌≢◌, ◌≤◌, ◌∙◌, ◌+◌, ◌-◌, ℕ, inl, false, bit_or}
 use Rattle.std.proofs.Math.Nat.{one-le-pow}
-use Rattle.live_law.specs.Levels.{up}
+use Rattle.live_nodes.specs.Levels.{up}
 use Rattle.live_scans.proofs.Nones.{is_within}
 use Rattle.live_scans.proofs.Nexts.{apart_up_to, apart_behind}
 use Rattle.live_scans.proofs.next.choose_down.Goals as goal

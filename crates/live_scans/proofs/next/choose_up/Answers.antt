@@ -1,5 +1,5 @@
 use Rattle.std.proofs.Common.{arith, refl, sym, ◌≢◌, ◌∙◌, ◌-◌, inl, true}
-use Rattle.live_law.specs.Levels.{up}
+use Rattle.live_nodes.specs.Levels.{up}
 use Rattle.live_scans.proofs.Nones.{is_within}
 use Rattle.live_scans.proofs.Nexts.{apart_after, apart_before}
 use Rattle.live_scans.proofs.next.choose_up.Goals as goal

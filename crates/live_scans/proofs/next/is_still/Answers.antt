@@ -1,8 +1,8 @@
 use Rattle.std.proofs.Common.{arith, sym, ap, subst, ◌/◌, ℕ}
 use mathlib.Core.Logic.{dite}
 use native.Mathlib.Decide.{ℕ_discrete}
-use Rattle.live_law.specs.Levels.{place_at}
-use Rattle.live_law.specs.Views.{View}
+use Rattle.live_nodes.specs.Levels.{place_at}
+use Rattle.live_nodes.specs.Views.{View}
 use Rattle.live_reads.proofs.Views.{first_word}
 use Rattle.live_scans.specs.inner.Moments.{SeesMore, HasNone}
 use Rattle.live_scans.specs.inner.Nexts.{IsOutside}
@@ -33,7 +33,7 @@ returns g c =
     let l = c.args.lower in
     let first = c.index-words-0.result in
     let at_k = (first_word (place_at f.lower.names.spot) b words f.lower.are first first (sym c.index-words-0.is)).0 in
-    let tells = c.check.ensures.told in
+    let tells = c.check.ensures.checked in
     let seat = c.check.ensures.seat in
     let w = c.check.new.seat.view in
     let caller = g.A.Asks.ask.caller in

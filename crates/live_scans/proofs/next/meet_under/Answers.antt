@@ -1,8 +1,8 @@
 use Rattle.std.proofs.Common.{arith, sym, ap, ◌/◌, ◌∙◌}
 use mathlib.Core.Logic.{dite}
 use native.Mathlib.Decide.{ℕ_discrete}
-use Rattle.live_law.specs.Levels.{up, digit, place_at}
-use Rattle.live_law.specs.Views.{View}
+use Rattle.live_nodes.specs.Levels.{up, digit, place_at}
+use Rattle.live_nodes.specs.Views.{View}
 use Rattle.live_reads.proofs.Views.{first_word}
 use Rattle.live_scans.proofs.Nexts.{up_of, may_meet_under, under_missed, under_keeps, under_met, under_near}
 use Rattle.live_scans.proofs.next.meet_under.Goals as goal
@@ -39,7 +39,7 @@ returns g c =
     let at = up_of c.args.at.height c.args.to (up c.args.at.height c.args.at.key) c.args.child.0 (omega (arith, high)) (omega arith) c.requires.to in
     let above = ap (up c.args.at.height) c.requires.asks.0 ∙ at.0 in
     let at_byte = ap (digit c.args.at.height) c.requires.asks.0 ∙ at.1 in
-    let tells = c.check.ensures.told in
+    let tells = c.check.ensures.checked in
     let seat = c.check.ensures.seat in
     let w = c.check.new.seat.view in
     let keeps = under_keeps c.args.up v b words t c.args.at c.args.child n high q above at_byte first.key at_k g.A.Asks.reads w tells.0 tells.2 in

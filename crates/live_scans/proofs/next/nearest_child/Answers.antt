@@ -3,7 +3,7 @@ use Rattle.live_nodes.specs.Seats.{Agree}
 use Rattle.live_nodes.specs.Rows.{last_saw}
 use Rattle.live_layout.specs.Order.{HasNearest}
 use Rattle.live_layout.specs.Encodes.{words_of}
-use Rattle.live_law.specs.Views.{View}
+use Rattle.live_nodes.specs.Views.{View}
 use Rattle.live_reads.proofs.Views.{may_read_open, open_read, reading_on_keeps}
 use Rattle.live_scans.proofs.Nexts.{near_read}
 use Rattle.live_scans.proofs.next.nearest_child.Goals as goal

@@ -3,8 +3,8 @@ use Rattle.word_book.specs.Book.{reads, none_joined}
 use Rattle.live_nodes.specs.Plays.{Checks}
 use Rattle.live_nodes.specs.Calls.{MayCheck}
 use Rattle.live_nodes.specs.Seats.{IsIn}
-use Rattle.live_law.specs.Levels.{place_at}
-use Rattle.live_law.specs.Tree.{IsMap, LearnsBelow}
+use Rattle.live_nodes.specs.Levels.{place_at}
+use Rattle.live_nodes.specs.Tree.{IsMap, LearnsBelow}
 use Rattle.live_layout.specs.Head.{IsHead}
 use Rattle.live_reads.specs.Paths.{HasOpened, Keeps, Sights}
 use Rattle.live_reads.specs.Sees.{Sees}
@@ -30,7 +30,7 @@ module _ (g : Over) (c : In_ok-there g) where
   opened = c.in_ok-there.ensures.opened.1 below
 
   placed : IsIn (place_at below.spot) c.open.new.seat.view.places
-  placed = c.open.ensures.told.2.places (place_at below.spot) below.placed
+  placed = c.open.ensures.keeps.places (place_at below.spot) below.placed
 
 -- its head was read
 module _ (g : Over) (c : After-index-there-0 g) where
@@ -40,15 +40,15 @@ module _ (g : Over) (c : After-index-there-0 g) where
   abbrev child : ChildRead c.args.up c.args.seat.now.view c.args.seat.now.book c.args.here.words.now c.args.here.taken c.args.at c.args.child c.slot_below-below.result c.open.new.seat.view c.open.new.seat.book c.in_ok-there.there.words.now c.in_ok-there.there.taken c.word-head.new.seat.view k
   child =
       let o = (goal.at.After-index-there-0 g c).In_ok-there in
-      let told = c.open.ensures.told in record {
+      let told = c.open.ensures in record {
         near = c.requires.near;
         high = c.requires.height.0;
         low_byte = omega arith;
         child = below g o;
         is_child = λ s e. sym (c.slot_below-below.ensures s e);
         apart = c.if-below-at.false;
-        keeps = told.2;
-        client = told.3;
+        keeps = told.keeps;
+        client = told.client;
         opened = opened g o;
         reads = c.in_ok-there.ensures.taken (below g o);
         rest = ap (λ s. s.view) c.word-head.ensures.seat.others;
@@ -63,20 +63,20 @@ module _ (g : Over) (c : After-check g) where
   abbrev read_it : After-index-there-0 g
   read_it = (goal.at.After-check g c).After-index-there-0
 
-  told : Checks (LearnsBelow c.requires.near.here.names.spot.number (Some c.args.here.taken)) (reads (k g read_it)) c.word-head.new.seat.view c.check.ensures.told.0 none_joined c.check.new.seat.view
-  told = subst (λ (z : ℕ × Option ℕ). Checks (LearnsBelow z.0 z.1) (reads (k g read_it)) c.word-head.new.seat.view c.check.ensures.told.0 none_joined c.check.new.seat.view) (λ i. ((at_above g read_it).0 i, (at_above g read_it).1 i)) c.check.ensures.told.2
+  told : Checks (LearnsBelow c.requires.near.here.names.spot.number (Some c.args.here.taken)) (reads (k g read_it)) c.word-head.new.seat.view c.check.ensures.checked.0 none_joined c.check.new.seat.view
+  told = subst (λ (z : ℕ × Option ℕ). Checks (LearnsBelow z.0 z.1) (reads (k g read_it)) c.word-head.new.seat.view c.check.ensures.checked.0 none_joined c.check.new.seat.view) (λ i. ((at_above g read_it).0 i, (at_above g read_it).1 i)) c.check.ensures.checked.2
 
   book_since : c.check.new.seat.book ≡ c.open.new.seat.book
   book_since = c.check.ensures.seat.0 ∙ ap (λ s. s.book) c.word-head.ensures.seat.others
 
   book : c.check.new.seat.book ≡ c.args.seat.now.book
-  book = book_since ∙ c.open.ensures.told.0
+  book = book_since ∙ c.open.ensures.book
 
   id : c.check.new.seat.id ≡ c.args.seat.now.id
-  id = c.check.ensures.seat.1 ∙ (ap (λ s. s.id) c.word-head.ensures.seat.others ∙ c.open.ensures.told.1)
+  id = c.check.ensures.seat.1 ∙ (ap (λ s. s.id) c.word-head.ensures.seat.others ∙ c.open.ensures.id)
 
-  kept : c.check.ensures.told.0 ≡ c.in_ok-there.there.taken → Keeps c.args.seat.now.view c.check.new.seat.view × (c.check.new.seat.view.client.seen ≡ c.args.seat.now.view.client.seen)
-  kept = next_keeps (child g read_it) c.check.new.seat.view c.check.ensures.told.0 told
+  kept : c.check.ensures.checked.0 ≡ c.in_ok-there.there.taken → Keeps c.args.seat.now.view c.check.new.seat.view × (c.check.new.seat.view.client.seen ≡ c.args.seat.now.view.client.seen)
+  kept = next_keeps (child g read_it) c.check.new.seat.view c.check.ensures.checked.0 told
 
 pub open-requires-clause-sighted : goal.open-requires-clause-sighted
 open-requires-clause-sighted g c = n g (goal.at.open-requires-clause-sighted g c).After-slot_below-below
@@ -103,7 +103,7 @@ check-requires-clause-learns g c =
 pub returns-then-not-check : goal.returns-then-not-check
 returns-then-not-check g c =
     let z = (goal.at.returns-then-not-check g c).After-check in
-    let missed = next_missed (child g (read_it g z)) c.check.new.seat.view c.check.ensures.told.0 (told g z) (search rules) in
+    let missed = next_missed (child g (read_it g z)) c.check.new.seat.view c.check.ensures.checked.0 (told g z) (search rules) in
     record { book = book g z; id = id g z; keeps = missed.0; seen = missed.1; next = tt }
 
 pub returns-in-Leaves : goal.returns-in-Leaves
@@ -123,6 +123,6 @@ returns-in-Covers g c =
       id = id g z;
       keeps = k.0;
       seen = k.1;
-      next = next_is (child g (read_it g z)) c.check.new.seat.view c.check.ensures.told.0 (told g z) (search rules) c.check.new.seat.book (book g z) (book_since g z) c.in_ok-there.ensures.opened.0 c.word-head.result
+      next = next_is (child g (read_it g z)) c.check.new.seat.view c.check.ensures.checked.0 (told g z) (search rules) c.check.new.seat.book (book g z) (book_since g z) c.in_ok-there.ensures.opened.0 c.word-head.result
           (record { name = c.slot_below-below.result; height = c.in-Covers.height; key = c.floor_of-first.result }) refl (search rules) (λ content agrees. (c.word-head.ensures.read content agrees).0) sees;
     }

@@ -1,5 +1,5 @@
 use Rattle.std.proofs.Common.{subst, sym, ◌∙◌, ℕ, arith, refl, IfSome}
-use Rattle.live_law.proofs.Plans.{root-top}
+use Rattle.live_nodes.proofs.Plans.{root-top}
 use Rattle.live_reads.specs.Paths.{Names}
 use Rattle.live_reads.proofs.Stood.{position_below_root}
 use Rattle.live_scans.specs.inner.Stops.{IsLeafAt}

@@ -1,5 +1,5 @@
 use Rattle.std.proofs.Common.{false}
-use Rattle.live_law.specs.Views.{ask}
+use Rattle.live_nodes.specs.Views.{ask}
 use Rattle.live_scans.proofs.page.step_last.Given as goal
 
 abbrev pub ghosts-leaf_page : goal.ghosts-leaf_page

@@ -1,5 +1,5 @@
 use Rattle.std.proofs.Common.{false}
-use Rattle.live_law.specs.Views.{ask}
+use Rattle.live_nodes.specs.Views.{ask}
 use Rattle.live_scans.proofs.page.try_step.Given as goal
 
 abbrev pub ghosts-step_from : goal.ghosts-step_from

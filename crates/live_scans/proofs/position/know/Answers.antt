@@ -3,8 +3,8 @@ use Rattle.word_book.specs.Book.{Book}
 use Rattle.live_nodes.specs.Seats.{IsIn}
 use Rattle.live_nodes.specs.Rows.{AreOf, last_saw}
 use Rattle.live_layout.specs.Head.{IsHead}
-use Rattle.live_law.specs.Levels.{place_at}
-use Rattle.live_law.specs.Views.{View}
+use Rattle.live_nodes.specs.Levels.{place_at}
+use Rattle.live_nodes.specs.Views.{View}
 use Rattle.live_reads.specs.Paths.{Names, HasOpened, Keeps}
 use Rattle.live_reads.specs.Sees.{Sees}
 use Rattle.live_reads.specs.declared.prefix_match.PrefixMatch.TheVariants as prefix_matches
@@ -23,7 +23,7 @@ module _ (c : In_ok-here) where
   opened = c.in_ok-here.ensures.opened.1 (sights_names c.args.seat.now.view c.args.path_node.at.name c.args.path_node.at.key c.args.path_node.at.height n)
 
   placed : IsIn (place_at n.spot) c.open.new.seat.view.places
-  placed = c.open.ensures.told.2.places (place_at n.spot) n.placed
+  placed = c.open.ensures.keeps.places (place_at n.spot) n.placed
 
 -- and its head was read
 module _ (c : After-word-head) where
@@ -35,20 +35,20 @@ module _ (c : After-word-head) where
       let v = c.args.seat.now.view in
       let u = c.open.new.seat.view in
       let v₂ = c.word-head.new.seat.view in
-      let told = c.open.ensures.told in
+      let told = c.open.ensures in
       let rest = ap (λ s. s.view) c.word-head.ensures.seat.others in
       let spot = (n o).spot in
       let on = reading_on_keeps u v₂ (opened o).before spot.number c.in_ok-here.here.taken (last_saw v₂.reads) (open_read u c.open.new.seat.book c.in_ok-here.here.words.now c.in_ok-here.here.taken spot (placed o) (opened o) v₂ rest) in
-      (keeps_then v u v₂ told.2 on.0, ap (λ (z : View). z.seen) (on.1 ∙ told.3))
+      (keeps_then v u v₂ told.keeps on.0, ap (λ (z : View). z.seen) (on.1 ∙ told.client))
 
   book_since : c.word-head.new.seat.book ≡ c.open.new.seat.book
   book_since = ap (λ s. s.book) c.word-head.ensures.seat.others
 
   book : c.word-head.new.seat.book ≡ c.args.seat.now.book
-  book = book_since ∙ c.open.ensures.told.0
+  book = book_since ∙ c.open.ensures.book
 
   id : c.word-head.new.seat.id ≡ c.args.seat.now.id
-  id = ap (λ s. s.id) c.word-head.ensures.seat.others ∙ c.open.ensures.told.1
+  id = ap (λ s. s.id) c.word-head.ensures.seat.others ∙ c.open.ensures.id
 
 pub word-head-requires-clause-may : goal.word-head-requires-clause-may
 word-head-requires-clause-may c =

@@ -1,6 +1,6 @@
 use Rattle.std.proofs.Common.{sym, ap, ◌≡◌, ◌∙◌, ℕ}
-use Rattle.live_law.specs.Levels.{place_at}
-use Rattle.live_law.specs.Views.{View}
+use Rattle.live_nodes.specs.Levels.{place_at}
+use Rattle.live_nodes.specs.Views.{View}
 use Rattle.live_reads.specs.Paths.{Keeps}
 use Rattle.live_reads.proofs.Views.{first_word, may_read_open}
 use Rattle.live_scans.proofs.PathNodes.{known_keeps, known_opened, known_placed, opened_keeps, known_open}
@@ -16,7 +16,7 @@ module _ (c : After-take-taken) where
   at_word = (first_word (place_at c.requires.known.names.spot) c.args.seat.now.book c.args.known.words.now c.requires.known.are c.index-words-0.result c.index-words-0.result (sym c.index-words-0.is)).0
 
   keeps : Keeps c.args.seat.now.view c.take-taken.new.seat.view × (c.take-taken.new.seat.view.client ≡ c.args.seat.now.view.client)
-  keeps = known_keeps c.args.seat.now.view c.args.seat.now.book c.args.at c.args.known.words.now c.args.known.head c.requires.known key at_word c.take-taken.new.seat.view c.take-taken.result c.take-taken.ensures.told
+  keeps = known_keeps c.args.seat.now.view c.args.seat.now.book c.args.at c.args.known.words.now c.args.known.head c.requires.known key at_word c.take-taken.new.seat.view c.take-taken.result c.take-taken.ensures.taken
 
 -- and its head was read
 module _ (c : After-word) where
@@ -24,7 +24,7 @@ module _ (c : After-word) where
   t = (goal.at.After-word c).After-take-taken
 
   on : Keeps c.args.seat.now.view c.word.new.seat.view × (c.word.new.seat.view.client.seen ≡ c.args.seat.now.view.client.seen)
-  on = opened_keeps c.args.seat.now.view c.args.seat.now.book c.args.at c.args.known.words.now c.args.known.head c.requires.known (key t) (at_word t) c.take-taken.new.seat.view c.take-taken.result c.take-taken.ensures.told c.word.new.seat.view (ap (λ s. s.view) c.word.ensures.seat.others)
+  on = opened_keeps c.args.seat.now.view c.args.seat.now.book c.args.at c.args.known.words.now c.args.known.head c.requires.known (key t) (at_word t) c.take-taken.new.seat.view c.take-taken.result c.take-taken.ensures.taken c.word.new.seat.view (ap (λ s. s.view) c.word.ensures.seat.others)
 
   book : c.word.new.seat.book ≡ c.args.seat.now.book
   book = ap (λ s. s.book) c.word.ensures.seat.others ∙ c.take-taken.ensures.seat.0
@@ -49,8 +49,8 @@ word-requires-clause-may c =
     let d = (goal.at.word-requires-clause-may c).After-take-taken in
     let k = c.requires.known in
     may_read_open c.take-taken.new.seat.view c.take-taken.new.seat.book c.args.known.words.now c.take-taken.result k.names.spot
-    (known_placed c.args.seat.now.view c.args.seat.now.book c.args.at c.args.known.words.now c.args.known.head k (key d) (at_word d) c.take-taken.new.seat.view c.take-taken.result c.take-taken.ensures.told)
-    (known_opened c.args.seat.now.view c.args.seat.now.book c.args.at c.args.known.words.now c.args.known.head k (key d) (at_word d) c.take-taken.new.seat.view c.take-taken.result c.take-taken.ensures.told c.take-taken.new.seat.book c.take-taken.ensures.seat.0)
+    (known_placed c.args.seat.now.view c.args.seat.now.book c.args.at c.args.known.words.now c.args.known.head k (key d) (at_word d) c.take-taken.new.seat.view c.take-taken.result c.take-taken.ensures.taken)
+    (known_opened c.args.seat.now.view c.args.seat.now.book c.args.at c.args.known.words.now c.args.known.head k (key d) (at_word d) c.take-taken.new.seat.view c.take-taken.result c.take-taken.ensures.taken c.take-taken.new.seat.book c.take-taken.ensures.seat.0)
 
 pub returns-then-word-head : goal.returns-then-word-head
 returns-then-word-head c =
@@ -65,6 +65,6 @@ returns c =
       id = id d;
       keeps = (on d).0;
       seen = (on d).1;
-      opened = known_open c.args.seat.now.view c.args.seat.now.book c.args.at c.args.known.words.now c.args.known.head c.requires.known (key (t d)) (at_word (t d)) c.take-taken.new.seat.view c.take-taken.result c.take-taken.ensures.told c.word.new.seat.view (ap (λ s. s.view) c.word.ensures.seat.others) c.word.new.seat.book (book d) c.if-taken-ne0.false
+      opened = known_open c.args.seat.now.view c.args.seat.now.book c.args.at c.args.known.words.now c.args.known.head c.requires.known (key (t d)) (at_word (t d)) c.take-taken.new.seat.view c.take-taken.result c.take-taken.ensures.taken c.word.new.seat.view (ap (λ s. s.view) c.word.ensures.seat.others) c.word.new.seat.book (book d) c.if-taken-ne0.false
           (λ content agrees. (c.word.ensures.read content agrees).0 ∙ c.if-word-head.false);
     }

@@ -1,5 +1,5 @@
 use Rattle.std.proofs.Common.{rules, refl, subst, ◌≡◌}
-use Rattle.live_law.specs.Known.{Known}
+use Rattle.live_nodes.specs.Known.{Known}
 use Rattle.live_growth.specs.Calls.{known_of}
 use Rattle.live_growth.proofs.Ready.{ready_kept}
 use Rattle.live_scans.specs.Scans.{HasBegun}

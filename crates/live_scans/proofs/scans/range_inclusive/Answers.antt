@@ -2,7 +2,7 @@ use Rattle.std.proofs.Common.{rules, arith, ℕ, length, take, subst, inr, ◌�
 use Rattle.std.proofs.lemmas.List.{length-map}
 use Rattle.live_nodes.specs.Seats.{place}
 use Rattle.live_layout.specs.Page.{pairs_of}
-use Rattle.live_law.specs.Known.{Known}
+use Rattle.live_nodes.specs.Known.{Known}
 use Rattle.live_growth.specs.Calls.{known_of}
 use Rattle.live_reads.proofs.Finds.{keeps_then}
 use Rattle.live_reads.proofs.Stood.{last_kept}

@@ -1,5 +1,5 @@
 use Rattle.std.proofs.Common.{rules, ap, subst, ◌≡◌, ◌∙◌, Some, IfSome}
-use Rattle.live_law.specs.Levels.{up}
+use Rattle.live_nodes.specs.Levels.{up}
 use Rattle.live_scans.specs.inner.Stops.{IsTrail}
 use Rattle.live_scans.proofs.PathNodes.{path_node_like}
 use Rattle.live_scans.proofs.seek.begin.Goals as goal

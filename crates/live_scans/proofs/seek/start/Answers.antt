@@ -14,13 +14,13 @@ returns-in-Some c =
     let i = c.loop.invariant in
     let v = c.loop.seat.view in
     let w = c.root_begun.new.seat.view in
-    let t = c.in-Some.ensures.told in
-    let began = subst (λ (z : ℕ × List (Entry ℕ)). Begins z.0 z.1 w.client.seen) (λ j. (i.id j, i.seen j)) t.3 in
+    let t = c.in-Some.ensures in
+    let began = subst (λ (z : ℕ × List (Entry ℕ)). Begins z.0 z.1 w.client.seen) (λ j. (i.id j, i.seen j)) t.root in
     record {
-      book = t.0 ∙ i.book;
-      id = t.1 ∙ i.id;
-      keeps = keeps_then u v w i.keeps t.2;
-      starts = (began, refl, refl, (omega arith, omega arith, t.4));
+      book = t.book ∙ i.book;
+      id = t.id ∙ i.id;
+      keeps = keeps_then u v w i.keeps t.keeps;
+      starts = (began, refl, refl, (omega arith, omega arith, t.named));
     }
 
 pub loop-preserved : goal.loop-preserved
@@ -29,11 +29,11 @@ loop-preserved c =
     let i = c.loop.invariant in
     let v = c.loop.seat.view in
     let w = c.root_begun.new.seat.view in
-    let t = c.root_begun.ensures.told in
+    let t = c.root_begun.ensures in
     let out : c.root_begun.result ≡ None = search rules in
     record {
-      book = t.0 ∙ i.book;
-      id = t.1 ∙ i.id;
-      keeps = keeps_then u v w i.keeps t.2;
-      seen = subst (λ (o : Option ℕ). SeesRoot (Begins c.loop.seat.id) v w o) out t.3 ∙ i.seen;
+      book = t.book ∙ i.book;
+      id = t.id ∙ i.id;
+      keeps = keeps_then u v w i.keeps t.keeps;
+      seen = subst (λ (o : Option ℕ). SeesRoot (Begins c.loop.seat.id) v w o) out t.root ∙ i.seen;
     }

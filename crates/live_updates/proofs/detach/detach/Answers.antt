@@ -8,16 +8,16 @@ use Rattle.live_updates.proofs.Twos.{none_counted, rest_keeps}
 use Rattle.live_updates.proofs.detach.detach.Goals as goal
 
 pub fill_of-requires-clause-may : goal.fill_of-requires-clause-may
-fill_of-requires-clause-may c = lower_may c.in-Some-lock_two.ensures.told.3.1.two
+fill_of-requires-clause-may c = lower_may c.in-Some-lock_two.ensures.two.1.two
 
 pub fill_of-requires-clause-long : goal.fill_of-requires-clause-long
 fill_of-requires-clause-long c =
-    let l = c.in-Some-lock_two.ensures.told.3.1 in
+    let l = c.in-Some-lock_two.ensures.two.1 in
     lower_long l.two c.form_below.result (c.form_below.ensures l.two.below.shape.key l.two.below.shape.form l.named)
 
 pub part-left-requires-clause-parts : goal.part-left-requires-clause-parts
 part-left-requires-clause-parts c =
-    let l = c.in-Some-lock_two.ensures.told.3.1 in
+    let l = c.in-Some-lock_two.ensures.two.1 in
     let h = l.two in
     let form = c.form_below.ensures h.below.shape.key h.below.shape.form l.named in
     let empty : c.fill_of.result ≡ Empty = search rules in
@@ -27,21 +27,19 @@ part-left-requires-clause-parts c =
 pub returns-in_default-fill_of : goal.returns-in_default-fill_of
 returns-in_default-fill_of c =
     let v = c.args.seat.now.view in
-    let l = c.lock_two.ensures.told in
+    let l = c.lock_two.ensures in
     let same = c.fill_of.ensures.seat.same in
-    let u = c.unlock_two.ensures.told in
-    let alike = c.in-Some-lock_two.ensures.told.3.0 in
+    let u = c.unlock_two.ensures in
+    let alike = c.in-Some-lock_two.ensures.two.0 in
     let rest : HasRest v c.unlock_two.new.seat.view = record {
-      own = u.2.own;
-      holds = u.2.holds;
-      alike = alike_then v c.lock_two.new.seat.view c.unlock_two.new.seat.view alike (alike_then c.lock_two.new.seat.view c.fill_of.new.seat.view c.unlock_two.new.seat.view (alike_same c.lock_two.new.seat.view c.fill_of.new.seat.view (ap (λ s. s.view) same)) u.2.alike);
+      own = u.rest.own;
+      holds = u.rest.holds;
+      alike = alike_then v c.lock_two.new.seat.view c.unlock_two.new.seat.view alike (alike_then c.lock_two.new.seat.view c.fill_of.new.seat.view c.unlock_two.new.seat.view (alike_same c.lock_two.new.seat.view c.fill_of.new.seat.view (ap (λ s. s.view) same)) u.rest.alike);
     } in
     record {
-      told = (
-        u.0 ∙ (ap (λ s. s.book) same ∙ l.0),
-        u.1 ∙ (ap (λ s. s.id) same ∙ l.1),
-        rest_keeps v c.unlock_two.new.seat.view c.requires.rests.0 c.requires.rests.1 rest,
-        u.3 ∙ (ap (λ s. s.view.client.seen) same ∙ l.2),
-      );
+      book = u.book ∙ (ap (λ s. s.book) same ∙ l.book);
+      id = u.id ∙ (ap (λ s. s.id) same ∙ l.id);
+      keeps = rest_keeps v c.unlock_two.new.seat.view c.requires.rests.0 c.requires.rests.1 rest;
+      seen = u.seen ∙ (ap (λ s. s.view.client.seen) same ∙ l.seen);
       named = tt;
     }

@@ -7,10 +7,10 @@ use Rattle.live_nodes.specs.Seats.{SeatView, seat_view, Place, IsIn, hold}
 use Rattle.live_nodes.specs.Acts as acts
 use Rattle.live_nodes.specs.Rows.{AreOf, draft_of, nth}
 use Rattle.live_layout.specs.Encodes.{words_of, Encodes, IsBelow, IsWord, IsCounted}
-use Rattle.live_law.specs.Levels.{digit, Spot, place_at}
-use Rattle.live_law.specs.Views.{View, locked, detached, rest_of}
-use Rattle.live_law.specs.Tree.{IsMap, StaysSame}
-use Rattle.live_law.proofs.Writes.{node_retires}
+use Rattle.live_nodes.specs.Levels.{digit, Spot, place_at}
+use Rattle.live_nodes.specs.Views.{View, locked, detached, rest_of}
+use Rattle.live_nodes.specs.Tree.{IsMap, StaysSame}
+use Rattle.live_nodes.proofs.Writes.{node_retires}
 use Rattle.live_growth.proofs.Locks.{alike_then}
 use Rattle.live_growth.proofs.Grips.{Grips, grip_frees, grip_freed}
 use Rattle.live_reads.proofs.Views.{first_word}
@@ -94,7 +94,7 @@ module _ (c : After-index-words-0) where
   cx_of = cx (start led)
 
   unlinked : (e : View) × (c.unlock.new.seat.view ≡ seat_view e c.fill_of-left.new.seat.view.places c.fill_of-left.new.seat.view.reads (hold x_of.number (c.args.two.free + 2) cx_of ∷ []) c.fill_of-left.new.seat.view.room) × Unlinks c.fill_of-left.new.seat.view.client (p (start led)).number (d led) e
-  unlinked = pair_freed _ _ _ _ _ _ _ _ _ _ (wrote led) c.index-words_above-0.result.key (at_p led) Unlinks c.unlock.new.seat.view (c.args.two.free_above + 4) c.unlock.ensures.told
+  unlinked = pair_freed _ _ _ _ _ _ _ _ _ _ (wrote led) c.index-words_above-0.result.key (at_p led) Unlinks c.unlock.new.seat.view (c.args.two.free_above + 4) c.unlock.ensures.freed
 
   grip : Grips c.unlock.new.seat.view c.unlock.new.seat.book c.args.words.now c.args.two.free (place_at x_of) cx_of
   grip = record {
@@ -143,18 +143,16 @@ returns c =
     let others = c.take.ensures.seat.others in
     let e = c.retire.ensures.seat in
     let f = unlinked a in
-    let o = grip_freed c.unlock.new.seat.view c.unlock.new.seat.book c.args.words.now c.args.two.free (place_at (x_of a)) (cx_of a) (grip a) c.index-words-0.result.key (at_x a) StaysSame y (c.args.two.free + 3) c.retire.ensures.told in
+    let o = grip_freed c.unlock.new.seat.view c.unlock.new.seat.book c.args.words.now c.args.two.free (place_at (x_of a)) (cx_of a) (grip a) c.index-words-0.result.key (at_x a) StaysSame y (c.args.two.free + 3) c.retire.ensures.freed in
     let wrote_alike = alike_then c.args.seat.now.view c.take.new.seat.view z (alike_wrote 1 c.args.seat.now.view c.take.new.seat.view (ap (λ s. s.view) others)) (alike_same c.take.new.seat.view z (ap (λ s. s.view) looked)) in
     let freed_alike = alike_then z c.unlock.new.seat.view y (alike_freed z c.unlock.new.seat.view f.0 _ f.1 (ap (λ (t : View). t.met) f.2)) (alike_freed c.unlock.new.seat.view y o.0 _ o.1 (ap (λ (t : View). t.met) o.2)) in
     record {
-      told = (
-        e.0 ∙ (c.unlock.ensures.seat.0 ∙ (ap (λ s. s.book) looked ∙ ap (λ s. s.book) others)),
-        e.1 ∙ (c.unlock.ensures.seat.1 ∙ (ap (λ s. s.id) looked ∙ ap (λ s. s.id) others)),
-        record {
-          own = ap (λ (t : Seen). t.client.own) o.1 ∙ (ap (λ (t : View). t.own) o.2 ∙ ap rest_of (own a));
-          holds = ap (λ (t : Seen). t.holds) o.1;
-          alike = alike_then c.args.seat.now.view z y wrote_alike freed_alike;
-        },
-        ap (λ (t : Seen). t.client.seen) o.1 ∙ (ap (λ (t : View). t.seen) o.2 ∙ (ap (λ (t : Seen). t.client.seen) f.1 ∙ (ap (λ (t : View). t.seen) f.2 ∙ ap (λ (t : View). t.seen) (wrote_client (led a))))),
-      );
+      book = e.0 ∙ (c.unlock.ensures.seat.0 ∙ (ap (λ s. s.book) looked ∙ ap (λ s. s.book) others));
+      id = e.1 ∙ (c.unlock.ensures.seat.1 ∙ (ap (λ s. s.id) looked ∙ ap (λ s. s.id) others));
+      rest = record {
+        own = ap (λ (t : Seen). t.client.own) o.1 ∙ (ap (λ (t : View). t.own) o.2 ∙ ap rest_of (own a));
+        holds = ap (λ (t : Seen). t.holds) o.1;
+        alike = alike_then c.args.seat.now.view z y wrote_alike freed_alike;
+      };
+      seen = ap (λ (t : Seen). t.client.seen) o.1 ∙ (ap (λ (t : View). t.seen) o.2 ∙ (ap (λ (t : Seen). t.client.seen) f.1 ∙ (ap (λ (t : View). t.seen) f.2 ∙ ap (λ (t : View). t.seen) (wrote_client (led a)))));
     }

@@ -2,7 +2,7 @@ use Rattle.std.proofs.Common.{rules, ◌≡◌, ◌∙◌, None, refl, sym, ap, 
 use Rattle.spec_map.specs.Map.{lookup}
 use Rattle.spec_node.specs.declared.child.Child.TheVariants.{Payload}
 use Rattle.live_layout.specs.Encodes.{Encodes}
-use Rattle.live_law.specs.Tree.{HasValue}
+use Rattle.live_nodes.specs.Tree.{HasValue}
 use Rattle.live_growth.proofs.Values.{none_below}
 use Rattle.live_updates.proofs.leaf.put_in.Goals as goal
 

@@ -6,9 +6,9 @@ use Rattle.spec_map.specs.Map.{lookup}
 use Rattle.spec_node.specs.TableNode.{TableNode}
 use Rattle.live_nodes.specs.Rows.{draft_of, nth}
 use Rattle.live_layout.specs.Encodes.{words_of, IsCounted, Encodes}
-use Rattle.live_law.specs.Levels.{up, digit, Spot, place_at}
-use Rattle.live_law.specs.Views.{View}
-use Rattle.live_law.specs.Tree.{IsMap, Answers}
+use Rattle.live_nodes.specs.Levels.{up, digit, Spot, place_at}
+use Rattle.live_nodes.specs.Views.{View}
+use Rattle.live_nodes.specs.Tree.{IsMap, Answers}
 use Rattle.live_reads.specs.Paths.{AreNamed, IsOpen}
 use Rattle.live_growth.specs.Holds.{Alike, HasLocked, HasLockedOpen, HoldsOne}
 use Rattle.live_reads.proofs.Views.{first_word}
@@ -34,7 +34,7 @@ module _ (g : Over) (c : In-Some g) where
   locks =
       let locked : c.lock_open.result ≡ Some c.in-Some.free = search rules in
       let open_node = HasLockedOpen c.args.seat.now.view c.lock_open.new.seat.view c.args.seat.now.book c.args.leaf.here.words.now c.args.leaf.here.taken c.args.leaf.position.name c.args.key 1 in
-      taken_by c.lock_open.result c.in-Some.free locked open_node c.lock_open.ensures.told.2 opened
+      taken_by c.lock_open.result c.in-Some.free locked open_node c.lock_open.ensures.locked opened
 
   leaf : HasLocked c.args.seat.now.view c.lock_open.new.seat.view c.args.leaf.position.name c.args.key 1 c.in-Some.free
   leaf = locks.0
@@ -47,7 +47,7 @@ module _ (g : Over) (c : In-Some g) where
 
   one : HoldsOne c.lock_open.new.seat.view c.lock_open.new.seat.book c.args.leaf.here.words.now c.in-Some.free a leaf.content leaf.content
   one =
-      let are = subst (λ z. AreNamed z c.args.leaf.position.name c.args.leaf.here.words.now) (sym c.lock_open.ensures.told.0) (are_named c.args.seat.now.view c.args.seat.now.book c.args.leaf.here.words.now c.args.leaf.here.taken c.args.leaf.position.name c.args.key 1 opened) in
+      let are = subst (λ z. AreNamed z c.args.leaf.position.name c.args.leaf.here.words.now) (sym c.lock_open.ensures.book) (are_named c.args.seat.now.view c.args.seat.now.book c.args.leaf.here.words.now c.args.leaf.here.taken c.args.leaf.position.name c.args.key 1 opened) in
       holds_one c.args.seat.now.view c.lock_open.new.seat.view c.args.leaf.position.name c.args.key 1 c.in-Some.free leaf c.lock_open.new.seat.book c.args.leaf.here.words.now are c.requires.rests.0 c.requires.rests.1
 
   drafted : draft_of (nth 0 c.lock_open.new.seat.view.holds) ≡ leaf.content
@@ -82,10 +82,10 @@ module _ (g : Over) (c : After-set g) where
   alike = alike_then c.args.seat.now.view c.lock_open.new.seat.view c.set.new.seat.view (leaf g first).alike wrote.1
 
   book : c.set.new.seat.book ≡ c.args.seat.now.book
-  book = ap (λ s. s.book) c.set.ensures.seat.others ∙ c.lock_open.ensures.told.0
+  book = ap (λ s. s.book) c.set.ensures.seat.others ∙ c.lock_open.ensures.book
 
   id : c.set.new.seat.id ≡ c.args.seat.now.id
-  id = ap (λ s. s.id) c.set.ensures.seat.others ∙ c.lock_open.ensures.told.1
+  id = ap (λ s. s.id) c.set.ensures.seat.others ∙ c.lock_open.ensures.id
 
 -- It is written, and its keys may be counted.
 module _ (g : Over) (c : After-index-words-0 g) where
@@ -144,14 +144,12 @@ unlock_same-requires-clause-holds g c =
 pub returns-in-Some-set : goal.returns-in-Some-set
 returns-in-Some-set g c =
     let s = (goal.at.returns-in-Some-set g c).After-set in
-    let e = c.unlock_same.ensures.told in
+    let e = c.unlock_same.ensures in
     record {
-      told = (
-        e.0 ∙ book g s,
-        e.1 ∙ id g s,
-        record { own = e.2.own; holds = e.2.holds; alike = alike_then c.args.seat.now.view c.set.new.seat.view c.unlock_same.new.seat.view (alike g s) e.2.alike },
-        e.3 ∙ (ap (λ (z : View). z.seen) (wrote g s).2 ∙ (leaf g (first g s)).seen),
-      );
+      book = e.book ∙ book g s;
+      id = e.id ∙ id g s;
+      rest = record { own = e.rest.own; holds = e.rest.holds; alike = alike_then c.args.seat.now.view c.set.new.seat.view c.unlock_same.new.seat.view (alike g s) e.rest.alike };
+      updated = e.seen ∙ (ap (λ (z : View). z.seen) (wrote g s).2 ∙ (leaf g (first g s)).seen);
     }
 
 pub unlock-requires-clause-free : goal.unlock-requires-clause-free
@@ -186,21 +184,19 @@ returns g c =
     let x = c.unlock.new.seat.view in
     let e = c.unlock.ensures.seat in
     let looked = c.left_in-left.ensures.seat.same in
-    let f = is_freed c.left_in-left.new.seat.view c.left_in-left.new.seat.book c.args.leaf.here.words.now c.in-Some.free (a g k) (leaf g k).content (d g s) (counted g t) c.index-words-0.result.key (at_k g t) (Writes q) x (c.in-Some.free + 4) c.unlock.ensures.told in
+    let f = is_freed c.left_in-left.new.seat.view c.left_in-left.new.seat.book c.args.leaf.here.words.now c.in-Some.free (a g k) (leaf g k).content (d g s) (counted g t) c.index-words-0.result.key (at_k g t) (Writes q) x (c.in-Some.free + 4) c.unlock.ensures.freed in
     let seen = ap (λ (z : View). z.seen) (client g t) ∙ (leaf g k).seen in
     record {
-      told = (
-        e.0 ∙ (ap (λ z. z.book) looked ∙ book g s),
-        e.1 ∙ (ap (λ z. z.id) looked ∙ id g s),
-        record {
-          own = ap (λ (z : Seen). z.client.own) f.1 ∙ ap (λ (z : View). z.own) f.2.is;
-          holds = ap (λ (z : Seen). z.holds) f.1;
-          alike = alike_then c.args.seat.now.view c.set.new.seat.view x (alike g s) record {
-            places = ap (λ (z : Seen). z.places) f.1 ∙ ap (λ z. z.view.places) looked;
-            met = ap (λ (z : Seen). z.client.met) f.1 ∙ (ap (λ (z : View). z.met) f.2.is ∙ ap (λ z. z.view.client.met) looked);
-            room = ap (λ (z : Seen). z.room) f.1 ∙ ap (λ z. z.view.room) looked;
-          };
-        },
-        subst (λ (z : List (Entry ℕ) × List (Entry ℕ)). Answers q.caller q.entry z.0 z.1) (λ i. (seen i, sym (ap (λ (z : Seen). z.client.seen) f.1) i)) f.2.answers,
-      );
+      book = e.0 ∙ (ap (λ z. z.book) looked ∙ book g s);
+      id = e.1 ∙ (ap (λ z. z.id) looked ∙ id g s);
+      rest = record {
+        own = ap (λ (z : Seen). z.client.own) f.1 ∙ ap (λ (z : View). z.own) f.2.is;
+        holds = ap (λ (z : Seen). z.holds) f.1;
+        alike = alike_then c.args.seat.now.view c.set.new.seat.view x (alike g s) record {
+          places = ap (λ (z : Seen). z.places) f.1 ∙ ap (λ z. z.view.places) looked;
+          met = ap (λ (z : Seen). z.client.met) f.1 ∙ (ap (λ (z : View). z.met) f.2.is ∙ ap (λ z. z.view.client.met) looked);
+          room = ap (λ (z : Seen). z.room) f.1 ∙ ap (λ z. z.view.room) looked;
+        };
+      };
+      updated = subst (λ (z : List (Entry ℕ) × List (Entry ℕ)). Answers q.caller q.entry z.0 z.1) (λ i. (seen i, sym (ap (λ (z : Seen). z.client.seen) f.1) i)) f.2.answers;
     }

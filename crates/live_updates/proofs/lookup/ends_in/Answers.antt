@@ -5,7 +5,7 @@ use Rattle.live_layout.specs.Encodes.{words_of, IsBelow, Encodes, payload_of}
 use Rattle.live_nodes.specs.Nodes.{Content}
 use Rattle.live_nodes.specs.Seats.{Agree}
 use Rattle.live_nodes.specs.Rows.{last_saw}
-use Rattle.live_law.specs.Levels.{place_at, digit}
+use Rattle.live_nodes.specs.Levels.{place_at, digit}
 use Rattle.live_updates.specs.inner.Lookups.{IsOpenWith}
 use Rattle.live_growth.proofs.Values.{value_found}
 use Rattle.live_reads.proofs.Views.{first_word, may_read_open}
@@ -46,15 +46,15 @@ check-requires-clause-learns g c =
 pub returns-then-not-check : goal.returns-then-not-check
 returns-then-not-check g c =
     let a = goal.at.returns-then-not-check g c in
-    let told = c.check.ensures.told in
+    let told = c.check.ensures.checked in
     let missed = seek_missed (has_read g a.After-index-words-0) c.check.new.seat.view told.0 told.2 (search rules) in
-    record { told = ((same g a.After-check).0, (same g a.After-check).1, missed.0, missed.1); still = tt }
+    record { book = (same g a.After-check).0; id = (same g a.After-check).1; keeps = missed.0; found = missed.1; still = tt }
 
 pub returns : goal.returns
 returns g c =
     let a = goal.at.returns g c in
     let o = c.requires.open in
-    let told = c.check.ensures.told in
+    let told = c.check.ensures.checked in
     let w = c.check.new.seat.view in
     let read = has_read g a.After-index-words-0 in
     let kept = λ (content : Content) (agrees : Agree content (last_saw c.find-found.new.seat.view.reads)). subst (λ z. Agree content (last_saw z)) o.opened.reads (c.find-found.ensures.kept content agrees) in
@@ -69,4 +69,4 @@ returns g c =
           value_found (lookup n.children (digit 1 c.args.key)) c.find-found.result (below content n agrees encodes formed)
           (ap (λ z. payload_of (lookup n.children z)) (sym c.byte_at-byte.ensures) ∙ c.find-found.ensures.payload content n agrees encodes (formed ∙ sym form) deep);
     } in
-    record { told = ((same g a.After-check).0, (same g a.After-check).1, ends.0, ends.1); still = subst (λ b. IsOpenWith w b here.words.now here.taken c.args.name c.args.key c.find-found.result) (sym (same g a.After-check).0) still }
+    record { book = (same g a.After-check).0; id = (same g a.After-check).1; keeps = ends.0; found = ends.1; still = subst (λ b. IsOpenWith w b here.words.now here.taken c.args.name c.args.key c.find-found.result) (sym (same g a.After-check).0) still }

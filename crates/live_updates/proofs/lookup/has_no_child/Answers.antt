@@ -3,8 +3,8 @@ use Rattle.spec_map.specs.Map.{lookup}
 use Rattle.live_layout.specs.Encodes.{words_of, IsBelow}
 use Rattle.live_nodes.specs.Seats.{Agree}
 use Rattle.live_nodes.specs.Rows.{last_saw}
-use Rattle.live_law.specs.Levels.{place_at}
-use Rattle.live_law.specs.Views.{View}
+use Rattle.live_nodes.specs.Levels.{place_at}
+use Rattle.live_nodes.specs.Views.{View}
 use Rattle.live_reads.proofs.Views.{first_word, may_read_open, open_read, reading_on_keeps}
 use Rattle.live_updates.proofs.Seeks.{HasRead, lacks_checked, may_seek, seek_missed, seek_ends}
 use Rattle.live_updates.proofs.lookup.has_no_child.Given.{Over}
@@ -35,7 +35,7 @@ returns-then-is_some g c =
     let w = c.find.new.seat.view in
     let r = c.find.ensures.seat.others in
     let keeps = reading_on_keeps v w o.opened.before o.names.spot.number c.args.here.taken (last_saw w.reads) (open_read v c.args.seat.now.book c.args.here.words.now c.args.here.taken o.names.spot o.names.placed o.opened w (ap (λ s. s.view) r)) in
-    record { told = (ap (λ s. s.book) r, ap (λ s. s.id) r, keeps.0, ap (λ (z : View). z.seen) keeps.1) }
+    record { book = ap (λ s. s.book) r; id = ap (λ s. s.id) r; keeps = keeps.0; lacks = ap (λ (z : View). z.seen) keeps.1 }
 
 pub check-requires-clause-learns : goal.check-requires-clause-learns
 check-requires-clause-learns g c =
@@ -49,11 +49,11 @@ returns g c =
     let read = has_read g (goal.at.returns g c).After-index-words-0 in
     let o = c.requires.open in
     let r = c.find.ensures.seat.others in
-    let told = c.check.ensures.told in
+    let told = c.check.ensures.checked in
     let seat = c.check.ensures.seat in
     let form = c.form_below-form.ensures o.names.spot.shape.key o.names.spot.shape.form o.names.named in
     let none : c.find.result ≡ None = search rules in
     let lacks = lacks_checked g.Q.Lookups.lookup c.check.result v w told.0 c.args.here.taken told.1 (λ hit. seek_ends read w told.0 told.2 hit
     (λ content agrees. subst (λ z. Agree content (last_saw z)) o.opened.reads (c.find.ensures.kept content agrees)) None tt
     (λ content n agrees encodes formed. subst (λ (z : ℕ × Option ℕ). IsBelow (lookup n.children z.0) z.1) (λ i. (c.byte_at-byte.ensures i, none i)) (c.find.ensures.is content n agrees encodes (formed ∙ sym form)))) (seek_missed read w told.0 told.2) in
-    record { told = (seat.0 ∙ ap (λ s. s.book) r, seat.1 ∙ ap (λ s. s.id) r, lacks.0, lacks.1) }
+    record { book = seat.0 ∙ ap (λ s. s.book) r; id = seat.1 ∙ ap (λ s. s.id) r; keeps = lacks.0; lacks = lacks.1 }

@@ -1,5 +1,5 @@
 use Rattle.std.proofs.Common.{arith, refl, sym, get_or, ◌/◌, ◌∙◌}
-use Rattle.live_law.specs.Levels.{place_at}
+use Rattle.live_nodes.specs.Levels.{place_at}
 use Rattle.live_reads.proofs.Finds.{keeps_then}
 use Rattle.live_reads.proofs.Views.{first_word}
 use Rattle.live_updates.proofs.Seeks.{LeadsAside, lacks_checked, lacks_later, may_part, part_lost, part_ends}
@@ -20,7 +20,7 @@ pub check-requires-clause-learns : goal.check-requires-clause-learns
 check-requires-clause-learns g c =
     let a = aside g (goal.at.check-requires-clause-learns g c).After-index-here-0 in
     let free = a.node.free in
-    may_part a c.requires.legal c.watch.new.seat.id (c.args.here.taken / 4) (c.requires.asks.1 ∙ sym c.watch.ensures.told.1) (omega (arith, free))
+    may_part a c.requires.legal c.watch.new.seat.id (c.args.here.taken / 4) (c.requires.asks.1 ∙ sym c.watch.ensures.id) (omega (arith, free))
 
 pub returns : goal.returns
 returns g c =
@@ -29,8 +29,8 @@ returns g c =
     let w = c.watch.new.seat.view in
     let x = c.check.new.seat.view in
     let q = g.Q.Lookups.lookup in
-    let s = c.watch.ensures.told in
-    let told = c.check.ensures.told in
+    let s = c.watch.ensures in
+    let told = c.check.ensures.checked in
     let seat = c.check.ensures.seat in
     let lacks = lacks_checked q c.check.result w x told.0 c.args.here.taken told.1 (part_ends a x told.0 told.2) (part_lost a x told.0 told.2) in
-    record { told = (seat.0 ∙ s.0, seat.1 ∙ s.1, keeps_then v w x s.2 lacks.0, lacks_later q c.check.result v w x s.3 lacks.1) }
+    record { book = seat.0 ∙ s.book; id = seat.1 ∙ s.id; keeps = keeps_then v w x s.keeps lacks.0; lacks = lacks_later q c.check.result v w x s.seen lacks.1 }

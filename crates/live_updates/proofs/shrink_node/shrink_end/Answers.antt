@@ -7,32 +7,32 @@ use Rattle.live_updates.proofs.shrink_node.shrink_end.Goals.{After-descend, Afte
 
 -- what is ready once the path was looked for, and once the node may have been shrunk
 ready : (c : After-descend) → IsReady c.descend.new.seat.view c.args.room.now
-ready c = ready_kept c.args.seat.now.view c.descend.new.seat.view c.args.room.now c.requires.ready c.descend.ensures.told.2
+ready c = ready_kept c.args.seat.now.view c.descend.new.seat.view c.args.room.now c.requires.ready c.descend.ensures.keeps
 
 again : (c : After-shrink_node) → IsReady c.shrink_node.new.seat.view (record c.args.room.now { spare = c.shrink_node.new.free_nodes; is_changed = true; used = c.add.new.self })
-again c = ready_again c.descend.new.seat.view c.shrink_node.new.seat.view (record c.args.room.now { is_changed = true; used = c.add.new.self }) c.shrink_node.new.free_nodes (ready_changed c.descend.new.seat.view c.args.room.now true c.add.new.self (ready (goal.at.After-shrink_node c).After-descend)) c.shrink_node.ensures.told.2 c.shrink_node.ensures.told.3 c.shrink_node.ensures.free_nodes
+again c = ready_again c.descend.new.seat.view c.shrink_node.new.seat.view (record c.args.room.now { is_changed = true; used = c.add.new.self }) c.shrink_node.new.free_nodes (ready_changed c.descend.new.seat.view c.args.room.now true c.add.new.self (ready (goal.at.After-shrink_node c).After-descend)) c.shrink_node.ensures.grown c.shrink_node.ensures.room c.shrink_node.ensures.free_nodes
 
 pub returns-in_default : goal.returns-in_default
-returns-in_default c = let d = c.descend.ensures.told in record { told = (d.0, d.1, ready (goal.at.returns-in_default c).After-descend, d.3) }
+returns-in_default c = let d = c.descend.ensures in record { book = d.book; id = d.id; ready = ready (goal.at.returns-in_default c).After-descend; seen = d.seen }
 
 pub returns-then-position-name : goal.returns-then-position-name
-returns-then-position-name c = let d = c.descend.ensures.told in record { told = (d.0, d.1, ready (goal.at.returns-then-position-name c).After-descend, d.3) }
+returns-then-position-name c = let d = c.descend.ensures in record { book = d.book; id = d.id; ready = ready (goal.at.returns-then-position-name c).After-descend; seen = d.seen }
 
 pub shrink_node-requires-clause-spare : goal.shrink_node-requires-clause-spare
-shrink_node-requires-clause-spare c = sights_kept c.args.seat.now.view c.descend.new.seat.view c.descend.ensures.told.2 c.args.spare c.requires.spare
+shrink_node-requires-clause-spare c = sights_kept c.args.seat.now.view c.descend.new.seat.view c.descend.ensures.keeps c.args.spare c.requires.spare
 
 pub returns-then-shrink_node : goal.returns-then-shrink_node
 returns-then-shrink_node c =
     let w = c.shrink_node.new.seat.view in
-    let d = c.descend.ensures.told in
-    let t = c.shrink_node.ensures.told in
+    let d = c.descend.ensures in
+    let t = c.shrink_node.ensures in
     let kept = again (goal.at.returns-then-shrink_node c).After-shrink_node in
     let s = c.in-Some.field-0.position in
-    let met = sights_grown c.descend.new.seat.view w s.name c.args.key s.height t.2 c.in-Some.ensures.told.4.0.named in
-    record { told = (t.0 ∙ d.0, t.1 ∙ d.1, ready_spare w _ c.keep.new.self kept (c.keep.ensures.kept w kept.spare met), t.2.seen ∙ d.3) }
+    let met = sights_grown c.descend.new.seat.view w s.name c.args.key s.height t.grown c.in-Some.ensures.end.0.named in
+    record { book = t.book ∙ d.book; id = t.id ∙ d.id; ready = ready_spare w _ c.keep.new.self kept (c.keep.ensures.kept w kept.spare met); seen = t.grown.seen ∙ d.seen }
 
 pub returns-else-shrink_node : goal.returns-else-shrink_node
 returns-else-shrink_node c =
-    let d = c.descend.ensures.told in
-    let t = c.shrink_node.ensures.told in
-    record { told = (t.0 ∙ d.0, t.1 ∙ d.1, again (goal.at.returns-else-shrink_node c).After-shrink_node, t.2.seen ∙ d.3) }
+    let d = c.descend.ensures in
+    let t = c.shrink_node.ensures in
+    record { book = t.book ∙ d.book; id = t.id ∙ d.id; ready = again (goal.at.returns-else-shrink_node c).After-shrink_node; seen = t.grown.seen ∙ d.seen }

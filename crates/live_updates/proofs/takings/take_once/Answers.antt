@@ -9,10 +9,10 @@ use Rattle.live_updates.proofs.takings.take_once.Goals.{In-Some, After-part_from
 -- A PATH was gone down
 module _ (c : In-Some) where
   knows : KnowsPosition c.descend_from.new.seat.view c.args.key c.in-Some.end.position
-  knows = c.in-Some.ensures.told.4.0
+  knows = c.in-Some.ensures.end.0
 
   ready : IsReady c.descend_from.new.seat.view c.args.room.now
-  ready = ready_kept c.args.seat.now.view c.descend_from.new.seat.view c.args.room.now c.requires.ready c.in-Some.ensures.told.2
+  ready = ready_kept c.args.seat.now.view c.descend_from.new.seat.view c.args.room.now c.requires.ready c.in-Some.ensures.keeps
 
 -- and ends at a leaf, which is the last one then
 module _ (c : After-part_from-part) where
@@ -25,11 +25,13 @@ module _ (c : After-part_from-part) where
   noted : IsReady c.descend_from.new.seat.view (record c.args.room.now { last = record { key = c.args.key; position = c.in-Some.end.position } })
   noted = ready_last c.descend_from.new.seat.view c.args.room.now (record { key = c.args.key; position = c.in-Some.end.position }) (ready some) (λ _. (knows some, leaf))
 
-pub returns-in_default-clause-told : goal.returns-in_default-clause-told
-returns-in_default-clause-told c = let t = c.descend_from.ensures.told in (t.0, t.1, ready_kept c.args.seat.now.view c.descend_from.new.seat.view c.args.room.now c.requires.ready t.2)
+pub returns-in_default-clause-ready : goal.returns-in_default-clause-ready
+returns-in_default-clause-ready c =
+    let t = c.descend_from.ensures in
+    ready_kept c.args.seat.now.view c.descend_from.new.seat.view c.args.room.now c.requires.ready t.keeps
 
-pub returns-then-height-gt1-clause-told : goal.returns-then-height-gt1-clause-told
-returns-then-height-gt1-clause-told c = let t = c.in-Some.ensures.told in (t.0, t.1, ready (goal.at.returns-then-height-gt1-clause-told c).In-Some)
+pub returns-then-height-gt1-clause-ready : goal.returns-then-height-gt1-clause-ready
+returns-then-height-gt1-clause-ready c = ready (goal.at.returns-then-height-gt1-clause-ready c).In-Some
 
 pub take_pairs-requires-clause-open : goal.take_pairs-requires-clause-open
 take_pairs-requires-clause-open c =
@@ -37,28 +39,25 @@ take_pairs-requires-clause-open c =
     (knows (some p), c.in-Some.ensures.leaf (leaf p))
 
 pub take_pairs-requires-clause-rests : goal.take_pairs-requires-clause-rests
-take_pairs-requires-clause-rests c = let t = c.in-Some.ensures.told.2 in (t.own ∙ c.requires.ready.own, t.holds ∙ c.requires.ready.holds)
+take_pairs-requires-clause-rests c = let t = c.in-Some.ensures.keeps in (t.own ∙ c.requires.ready.own, t.holds ∙ c.requires.ready.holds)
 
-pub returns-in_default-take_pairs-clause-told : goal.returns-in_default-take_pairs-clause-told
-returns-in_default-take_pairs-clause-told c =
-    let p = (goal.at.returns-in_default-take_pairs-clause-told c).After-part_from-part in
-    let t = c.in-Some.ensures.told in
-    let e = c.take_pairs.ensures.told in
-    (e.0 ∙ t.0, e.1 ∙ t.1, ready_rest c.descend_from.new.seat.view c.take_pairs.new.seat.view (record c.args.room.now { last = record { key = c.args.key; position = c.in-Some.end.position } }) (noted p) e.2)
+pub returns-in_default-take_pairs-clause-ready : goal.returns-in_default-take_pairs-clause-ready
+returns-in_default-take_pairs-clause-ready c =
+    let p = (goal.at.returns-in_default-take_pairs-clause-ready c).After-part_from-part in
+    let e = c.take_pairs.ensures in
+    ready_rest c.descend_from.new.seat.view c.take_pairs.new.seat.view (record c.args.room.now { last = record { key = c.args.key; position = c.in-Some.end.position } }) (noted p) e.rest
 
 pub tidy_leaf-requires-clause-ready : goal.tidy_leaf-requires-clause-ready
 tidy_leaf-requires-clause-ready c =
     let p = (goal.at.tidy_leaf-requires-clause-ready c).After-part_from-part in
-    ready_rest c.descend_from.new.seat.view c.take_pairs.new.seat.view (record c.args.room.now { last = record { key = c.args.key; position = c.in-Some.end.position } }) (noted p) c.take_pairs.ensures.told.2
+    ready_rest c.descend_from.new.seat.view c.take_pairs.new.seat.view (record c.args.room.now { last = record { key = c.args.key; position = c.in-Some.end.position } }) (noted p) c.take_pairs.ensures.rest
 
 pub tidy_leaf-requires-clause-position : goal.tidy_leaf-requires-clause-position
 tidy_leaf-requires-clause-position c =
     let p = (goal.at.tidy_leaf-requires-clause-position c).After-part_from-part in
-    position_rest c.descend_from.new.seat.view c.take_pairs.new.seat.view c.args.key c.in-Some.end.position c.take_pairs.ensures.told.2 (knows (some p))
+    position_rest c.descend_from.new.seat.view c.take_pairs.new.seat.view c.args.key c.in-Some.end.position c.take_pairs.ensures.rest (knows (some p))
 
-pub returns-clause-told : goal.returns-clause-told
-returns-clause-told c =
-    let t = c.in-Some.ensures.told in
-    let p = c.take_pairs.ensures.told in
-    let e = c.tidy_leaf.ensures.told in
-    (e.0 ∙ (p.0 ∙ t.0), e.1 ∙ (p.1 ∙ t.1), e.2)
+pub returns-clause-ready : goal.returns-clause-ready
+returns-clause-ready c =
+    let e = c.tidy_leaf.ensures in
+    e.ready

@@ -7,8 +7,8 @@ use Rattle.live_nodes.specs.Nodes.{Content}
 use Rattle.live_nodes.specs.Rows.{draft_of, nth}
 use Rattle.live_layout.specs.Encodes.{words_of, Encodes}
 use Rattle.live_layout.specs.Page.{AreListed, pairs_of}
-use Rattle.live_law.specs.Levels.{up, Spot}
-use Rattle.live_law.specs.Views.{View}
+use Rattle.live_nodes.specs.Levels.{up, Spot}
+use Rattle.live_nodes.specs.Views.{View}
 use Rattle.live_reads.specs.Paths.{AreNamed, IsOpen}
 use Rattle.live_growth.specs.Holds.{Alike, HasLocked, HasLockedOpen, HoldsOne}
 use Rattle.live_growth.proofs.Locks.{taken_by, are_named, holds_one, may_hold, draft_is, wrote_one, alike_then}
@@ -26,7 +26,7 @@ module _ (c : In_ok-free) where
   leaf =
       let locked : c.lock_open.result ≡ Some c.in_ok-free.free = search rules in
       let open_node = HasLockedOpen c.args.seat.now.view c.lock_open.new.seat.view c.args.seat.now.book c.args.leaf.here.words.now c.args.leaf.here.taken c.args.leaf.position.name c.args.key 1 in
-      (taken_by c.lock_open.result c.in_ok-free.free locked open_node c.lock_open.ensures.told.2 opened).0
+      (taken_by c.lock_open.result c.in_ok-free.free locked open_node c.lock_open.ensures.locked opened).0
 
   abbrev a : Spot
   a = leaf.names.spot
@@ -36,7 +36,7 @@ module _ (c : In_ok-free) where
 
   one : HoldsOne c.lock_open.new.seat.view c.lock_open.new.seat.book c.args.leaf.here.words.now c.in_ok-free.free a leaf.content leaf.content
   one =
-      let are = subst (λ z. AreNamed z c.args.leaf.position.name c.args.leaf.here.words.now) (sym c.lock_open.ensures.told.0) (are_named c.args.seat.now.view c.args.seat.now.book c.args.leaf.here.words.now c.args.leaf.here.taken c.args.leaf.position.name c.args.key 1 opened) in
+      let are = subst (λ z. AreNamed z c.args.leaf.position.name c.args.leaf.here.words.now) (sym c.lock_open.ensures.book) (are_named c.args.seat.now.view c.args.seat.now.book c.args.leaf.here.words.now c.args.leaf.here.taken c.args.leaf.position.name c.args.key 1 opened) in
       holds_one c.args.seat.now.view c.lock_open.new.seat.view c.args.leaf.position.name c.args.key 1 c.in_ok-free.free leaf c.lock_open.new.seat.book c.args.leaf.here.words.now are c.requires.rests.0 c.requires.rests.1
 
   drafted : draft_of (nth 0 c.lock_open.new.seat.view.holds) ≡ leaf.content
@@ -57,10 +57,10 @@ module _ (c : After-fill-filled) where
   drafted_read = ap (λ s. draft_of (nth 0 s.view.holds)) same ∙ drafted first
 
   book_read : c.fill-filled.new.seat.book ≡ c.args.seat.now.book
-  book_read = ap (λ s. s.book) same ∙ c.lock_open.ensures.told.0
+  book_read = ap (λ s. s.book) same ∙ c.lock_open.ensures.book
 
   id_read : c.fill-filled.new.seat.id ≡ c.args.seat.now.id
-  id_read = ap (λ s. s.id) same ∙ c.lock_open.ensures.told.1
+  id_read = ap (λ s. s.id) same ∙ c.lock_open.ensures.id
 
   abbrev pairs : Pairs ℕ
   pairs = take c.fill-filled.result.count c.fill-filled.new.buffer
@@ -135,19 +135,28 @@ unlock_same-requires-clause-holds c =
     let r = (goal.at.unlock_same-requires-clause-holds c).After-fill-filled in
     (a (first r), (leaf (first r)).content, one_read r)
 
-pub returns-then-filled-eq0-clause-told : goal.returns-then-filled-eq0-clause-told
-returns-then-filled-eq0-clause-told c =
-    let r = (goal.at.returns-then-filled-eq0-clause-told c).After-fill-filled in
-    let e = c.unlock_same.ensures.told in (
-      e.0 ∙ book_read r,
-      e.1 ∙ id_read r,
-      record { own = e.2.own; holds = e.2.holds; alike = alike_then c.args.seat.now.view c.fill-filled.new.seat.view c.unlock_same.new.seat.view (subst (λ s. Alike c.args.seat.now.view s.view) (sym (same r)) (leaf (first r)).alike) e.2.alike },
-    )
+pub returns-then-filled-eq0-clause-book : goal.returns-then-filled-eq0-clause-book
+returns-then-filled-eq0-clause-book c =
+    let r = (goal.at.returns-then-filled-eq0-clause-book c).After-fill-filled in
+    let e = c.unlock_same.ensures in
+    e.book ∙ book_read r
+
+pub returns-then-filled-eq0-clause-id : goal.returns-then-filled-eq0-clause-id
+returns-then-filled-eq0-clause-id c =
+    let r = (goal.at.returns-then-filled-eq0-clause-id c).After-fill-filled in
+    let e = c.unlock_same.ensures in
+    e.id ∙ id_read r
+
+pub returns-then-filled-eq0-clause-rest : goal.returns-then-filled-eq0-clause-rest
+returns-then-filled-eq0-clause-rest c =
+    let r = (goal.at.returns-then-filled-eq0-clause-rest c).After-fill-filled in
+    let e = c.unlock_same.ensures in
+    record { own = e.rest.own; holds = e.rest.holds; alike = alike_then c.args.seat.now.view c.fill-filled.new.seat.view c.unlock_same.new.seat.view (subst (λ s. Alike c.args.seat.now.view s.view) (sym (same r)) (leaf (first r)).alike) e.rest.alike }
 
 pub returns-then-filled-eq0-clause-none : goal.returns-then-filled-eq0-clause-none
 returns-then-filled-eq0-clause-none c =
     let r = (goal.at.returns-then-filled-eq0-clause-none c).After-fill-filled in
-    c.unlock_same.ensures.told.3 ∙ (ap (λ s. s.view.client.seen) (same r) ∙ (leaf (first r)).seen)
+    c.unlock_same.ensures.seen ∙ (ap (λ s. s.view.client.seen) (same r) ∙ (leaf (first r)).seen)
 
 pub take_part-requires-clause-may : goal.take_part-requires-clause-may
 take_part-requires-clause-may c =
@@ -182,14 +191,23 @@ unlock_taken-requires-clause-holds c =
       left = left t;
     }
 
-pub returns-clause-told : goal.returns-clause-told
-returns-clause-told c =
-    let t = (goal.at.returns-clause-told c).After-fill_of-left in
-    let e = c.unlock_taken.ensures.told in (
-      e.0 ∙ book t,
-      e.1 ∙ id t,
-      record { own = e.2.own; holds = e.2.holds; alike = alike_then c.args.seat.now.view c.fill_of-left.new.seat.view c.unlock_taken.new.seat.view (alike t) e.2.alike },
-    )
+pub returns-clause-book : goal.returns-clause-book
+returns-clause-book c =
+    let t = (goal.at.returns-clause-book c).After-fill_of-left in
+    let e = c.unlock_taken.ensures in
+    e.book ∙ book t
+
+pub returns-clause-id : goal.returns-clause-id
+returns-clause-id c =
+    let t = (goal.at.returns-clause-id c).After-fill_of-left in
+    let e = c.unlock_taken.ensures in
+    e.id ∙ id t
+
+pub returns-clause-rest : goal.returns-clause-rest
+returns-clause-rest c =
+    let t = (goal.at.returns-clause-rest c).After-fill_of-left in
+    let e = c.unlock_taken.ensures in
+    record { own = e.rest.own; holds = e.rest.holds; alike = alike_then c.args.seat.now.view c.fill_of-left.new.seat.view c.unlock_taken.new.seat.view (alike t) e.rest.alike }
 
 pub returns-clause-taken : goal.returns-clause-taken
 returns-clause-taken c =
@@ -197,7 +215,7 @@ returns-clause-taken c =
     let part = c.args.part in
     let to : ℕ = part.base + (c.fill-filled.result.reached + 1) in
     let reached = c.fill-filled.ensures.reached.1 in
-    let e = c.unlock_taken.ensures.told.3 in (
+    let e = c.unlock_taken.ensures.takes in (
       to,
       omega (arith, reached),
       subst (λ (z : ℕ × List (Entry ℕ)). Takes z.0 (part.base + part.first) to (pairs (read t)) z.1 c.unlock_taken.new.seat.view.client.seen) (λ i. (id t i, seen t i)) e,

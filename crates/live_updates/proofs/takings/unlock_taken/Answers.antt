@@ -3,9 +3,9 @@ use Rattle.spec_node.specs.TableNode.{TableNode}
 use Rattle.live_nodes.specs.Acts as acts
 use Rattle.live_nodes.specs.Seats.{SeatView}
 use Rattle.live_layout.specs.Page.{AreListed}
-use Rattle.live_law.specs.Levels.{place_at}
-use Rattle.live_law.specs.Views.{View}
-use Rattle.live_law.specs.Tree.{IsMap}
+use Rattle.live_nodes.specs.Levels.{place_at}
+use Rattle.live_nodes.specs.Views.{View}
+use Rattle.live_nodes.specs.Tree.{IsMap}
 use Rattle.live_reads.proofs.Views.{first_word}
 use Rattle.live_growth.proofs.Locks.{may_free, is_freed}
 use Rattle.live_updates.specs.Takings.{Takes}
@@ -40,20 +40,18 @@ returns g c =
     let h = c.requires.holds in
     let v = c.args.seat.now.view in
     let s = c.unlock.ensures.seat in
-    let f = is_freed v c.args.seat.now.book c.args.words.now c.args.free h.spot h.content h.draft h.one c.index-words-0.result.key (at_k g (goal.at.returns g c).After-index-words-0) (TakesOut g.T.Takings.taking) c.unlock.new.seat.view (c.args.free + 4) c.unlock.ensures.told in
+    let f = is_freed v c.args.seat.now.book c.args.words.now c.args.free h.spot h.content h.draft h.one c.index-words-0.result.key (at_k g (goal.at.returns g c).After-index-words-0) (TakesOut g.T.Takings.taking) c.unlock.new.seat.view (c.args.free + 4) c.unlock.ensures.freed in
     record {
-      told = (
-        s.0,
-        s.1,
-        record {
-          own = ap (λ (z : SeatView View). z.client.own) f.1 ∙ ap (λ (z : View). z.own) f.2.is;
-          holds = ap (λ (z : SeatView View). z.holds) f.1;
-          alike = record {
-            places = ap (λ (z : SeatView View). z.places) f.1;
-            met = ap (λ (z : SeatView View). z.client.met) f.1 ∙ ap (λ (z : View). z.met) f.2.is;
-            room = ap (λ (z : SeatView View). z.room) f.1;
-          };
-        },
-        subst (λ (z : Taking × View). Takes z.0.caller z.0.low z.0.high z.0.pairs v.client.seen z.1.seen) (λ i. (c.requires.taking i, sym (ap (λ (z : SeatView View). z.client) f.1) i)) f.2.takes,
-      );
+      book = s.0;
+      id = s.1;
+      rest = record {
+        own = ap (λ (z : SeatView View). z.client.own) f.1 ∙ ap (λ (z : View). z.own) f.2.is;
+        holds = ap (λ (z : SeatView View). z.holds) f.1;
+        alike = record {
+          places = ap (λ (z : SeatView View). z.places) f.1;
+          met = ap (λ (z : SeatView View). z.client.met) f.1 ∙ ap (λ (z : View). z.met) f.2.is;
+          room = ap (λ (z : SeatView View). z.room) f.1;
+        };
+      };
+      takes = subst (λ (z : Taking × View). Takes z.0.caller z.0.low z.0.high z.0.pairs v.client.seen z.1.seen) (λ i. (c.requires.taking i, sym (ap (λ (z : SeatView View). z.client) f.1) i)) f.2.takes;
     }

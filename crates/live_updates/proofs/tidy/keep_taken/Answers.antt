@@ -12,4 +12,4 @@ pub shrink_on_path-requires-clause-ready : goal.shrink_on_path-requires-clause-r
 shrink_on_path-requires-clause-ready c = kept (goal.at.shrink_on_path-requires-clause-ready c).After-keep
 
 pub returns-then-eq : goal.returns-then-eq
-returns-then-eq c = record { told = (refl, refl, kept (goal.at.returns-then-eq c).After-keep, refl) }
+returns-then-eq c = record { book = refl; id = refl; ready = kept (goal.at.returns-then-eq c).After-keep; seen = refl }

@@ -5,17 +5,17 @@ use Rattle.live_growth.proofs.Ready.{ready_kept}
 use Rattle.live_updates.proofs.tidy.take_out.Goals as goal
 
 pub keep_taken-requires-clause-ready : goal.keep_taken-requires-clause-ready
-keep_taken-requires-clause-ready c = ready_kept c.args.seat.now.view c.detach.new.seat.view c.args.room.now c.requires.ready c.detach.ensures.told.2
+keep_taken-requires-clause-ready c = ready_kept c.args.seat.now.view c.detach.new.seat.view c.args.room.now c.requires.ready c.detach.ensures.keeps
 
 pub keep_taken-requires-clause-sighted : goal.keep_taken-requires-clause-sighted
 keep_taken-requires-clause-sighted c =
     let v = c.args.seat.now.view in
     let w = c.detach.new.seat.view in
     let position = c.args.position in
-    let sight = sights_kept v w c.detach.ensures.told.2 position.name (sights_names v position.name c.args.key position.height c.requires.position.named) in
+    let sight = sights_kept v w c.detach.ensures.keeps position.name (sights_names v position.name c.args.key position.height c.requires.position.named) in
     subst (Sights w) (sym c.in-Ok.ensures.named) sight
 
 pub returns-in-Err : goal.returns-in-Err
 returns-in-Err c =
-    let t = c.detach.ensures.told in
-    record { told = (t.0, t.1, ready_kept c.args.seat.now.view c.detach.new.seat.view c.args.room.now c.requires.ready t.2, t.3) }
+    let t = c.detach.ensures in
+    record { book = t.book; id = t.id; ready = ready_kept c.args.seat.now.view c.detach.new.seat.view c.args.room.now c.requires.ready t.keeps; seen = t.seen }

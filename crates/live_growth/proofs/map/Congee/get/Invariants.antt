@@ -1,5 +1,5 @@
 use Rattle.std.proofs.Common.{◌≡◌, true}
-use Rattle.live_law.specs.Views.{ask}
+use Rattle.live_nodes.specs.Views.{ask}
 use Rattle.live_growth.specs.Calls.{IsReady}
 use Rattle.live_growth.proofs.map.Congee.get.Given as goal
 

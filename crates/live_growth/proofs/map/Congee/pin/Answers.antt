@@ -1,4 +1,4 @@
-use Rattle.live_law.proofs.Begins.{admits}
+use Rattle.live_nodes.proofs.Begins.{admits}
 use Rattle.live_growth.proofs.Ready.{ready_new}
 use Rattle.live_growth.proofs.map.Congee.pin.Goals as goal
 

@@ -1,4 +1,4 @@
-use Rattle.live_law.proofs.Begins.{admits, begins}
+use Rattle.live_nodes.proofs.Begins.{admits, begins}
 use Rattle.live_growth.proofs.Ready.{ready_new}
 use Rattle.live_growth.proofs.map.Congee.with_guard.Goals as goal
 

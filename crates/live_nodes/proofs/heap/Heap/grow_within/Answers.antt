@@ -10,7 +10,7 @@ load-number-requires-clause-rule g c = let s = c.args.seat.now in may_idle g.L.N
 
 pub returns-clause-room : goal.returns-clause-room
 returns-clause-room g c =
-    let v = c.load-number.new.seat.view in let idle = c.load-number.ensures.told in let t = c.grow-grown.ensures.told in let more = t.2.1 (t.1.0 c.if-not-grown.false) in let s = c.size_of-count.ensures in
+    let v = c.load-number.new.seat.view in let idle = c.load-number.ensures.view in let t = c.grow-grown.ensures.grown in let more = t.2.1 (t.1.0 c.if-not-grown.false) in let s = c.size_of-count.ensures in
     let start : ℕ = c.len-first.result + keys * c.load-number.result in let first = c.len-first.ensures in let i = c.self.invariant.0 in
     let is : c.grow-grown.result.1.next ≡ start = (let m = more.0 in omega (arith, m, first, i)) in
     let low = c.if-first.false in let few = c.if-number.false in

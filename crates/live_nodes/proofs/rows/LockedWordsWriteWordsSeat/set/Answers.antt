@@ -17,7 +17,7 @@ returns-clause-is g c =
     let words = c.args.self.now.words.now in
     let d = c.index-self-i.result in
     let low = draft_low g.row.N s.view words s.book c.args.i c.requires.may c.requires.inside in
-    words_now g.row.N s.view words s.book c.requires.may c.args.i low (get_or words (c.args.i + 1) d) d refl c.write.new.seat.view c.args.word c.write.ensures.told
+    words_now g.row.N s.view words s.book c.requires.may c.args.i low (get_or words (c.args.i + 1) d) d refl c.write.new.seat.view c.args.word c.write.ensures.written
 
 pub returns-clause-seat : goal.returns-clause-seat
 returns-clause-seat g c =
@@ -27,8 +27,8 @@ returns-clause-seat g c =
     let d = c.index-self-i.result in
     let low = draft_low g.row.N s.view words s.book c.args.i c.requires.may c.requires.inside in
     let word = get_or words (c.args.i + 1) d in
-    let view = same_undrafted g.row.N s.view words s.book c.requires.may c.args.i low word d refl t.view c.args.word c.write.ensures.told in
+    let view = same_undrafted g.row.N s.view words s.book c.requires.may c.args.i low word d refl t.view c.args.word c.write.ensures.written in
     record {
-      still = subst (λ b. MayHold g.row.N words b t.view) (sym c.write.ensures.seat.0) (still_holds g.row.N s.view words s.book c.requires.may c.args.i low word d refl t.view c.args.word c.write.ensures.told);
+      still = subst (λ b. MayHold g.row.N words b t.view) (sym c.write.ensures.seat.0) (still_holds g.row.N s.view words s.book c.requires.may c.args.i low word d refl t.view c.args.word c.write.ensures.written);
       others = λ j. record { marker = s.marker; book = c.write.ensures.seat.0 j; id = c.write.ensures.seat.1 j; view = view j };
     }

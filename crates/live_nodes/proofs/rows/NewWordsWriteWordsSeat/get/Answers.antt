@@ -9,13 +9,13 @@ returns-clause-is g c =
     let words = c.args.self.now.words.now in
     let d = c.index-self-i.result in
     let low = fill_low words s.view.room c.args.i c.requires.inside in
-    found s.view words s.book c.requires.may c.args.i low (get_or words (c.args.i + 1) d) d refl c.look.new.seat.view c.look.result c.look.ensures.told
+    found s.view words s.book c.requires.may c.args.i low (get_or words (c.args.i + 1) d) d refl c.look.new.seat.view c.look.result c.look.ensures.looked
 
 pub returns-clause-seat : goal.returns-clause-seat
 returns-clause-seat g c =
     let s = c.args.seat.now in
     let words = c.args.self.now.words.now in
-    let same : c.look.new.seat ≡ s = λ j. record { marker = s.marker; book = c.look.ensures.seat.0 j; id = c.look.ensures.seat.1 j; view = c.look.ensures.told.same j } in
+    let same : c.look.new.seat ≡ s = λ j. record { marker = s.marker; book = c.look.ensures.seat.0 j; id = c.look.ensures.seat.1 j; view = c.look.ensures.looked.same j } in
     record {
       still = subst (λ t. MayFill words t.book t.view) (sym same) c.requires.may;
       kept = ap (λ t. filled (length words) t.view.room) same;

@@ -9,7 +9,7 @@ returns-clause-is g c =
     let words = c.args.self.now.words.now in
     let d = c.index-self-i.result in
     let low = fill_low words s.view.room c.args.i c.requires.inside in
-    words_now s.view words s.book c.requires.may c.args.i low (get_or words (c.args.i + 1) d) d refl c.put.new.seat.view c.args.word c.put.ensures.told
+    words_now s.view words s.book c.requires.may c.args.i low (get_or words (c.args.i + 1) d) d refl c.put.new.seat.view c.args.word c.put.ensures.put
 
 pub returns-clause-seat : goal.returns-clause-seat
 returns-clause-seat g c =
@@ -19,8 +19,8 @@ returns-clause-seat g c =
     let d = c.index-self-i.result in
     let low = fill_low words s.view.room c.args.i c.requires.inside in
     let word = get_or words (c.args.i + 1) d in
-    let view = same_unfilled s.view words s.book c.requires.may c.args.i low word d refl t.view c.args.word c.put.ensures.told in
+    let view = same_unfilled s.view words s.book c.requires.may c.args.i low word d refl t.view c.args.word c.put.ensures.put in
     record {
-      still = subst (λ b. MayFill words b t.view) (sym c.put.ensures.seat.0) (still_fills s.view words s.book c.requires.may c.args.i low word d refl t.view c.args.word c.put.ensures.told);
+      still = subst (λ b. MayFill words b t.view) (sym c.put.ensures.seat.0) (still_fills s.view words s.book c.requires.may c.args.i low word d refl t.view c.args.word c.put.ensures.put);
       others = λ j. record { marker = s.marker; book = c.put.ensures.seat.0 j; id = c.put.ensures.seat.1 j; view = view j };
     }

@@ -18,9 +18,9 @@ returns-clause-seat g c =
     let d = c.index-self-i.result in
     let low : c.args.i + 1 < length words = omega (arith, c.requires.inside) in
     let word = get_or words (c.args.i + 1) d in
-    let view = same_unread s.view words s.book c.requires.may c.args.i low word d refl t.view c.read.result c.read.ensures.told in
+    let view = same_unread s.view words s.book c.requires.may c.args.i low word d refl t.view c.read.result c.read.ensures.read in
     record {
-      still = subst (λ b. MayRead words b t.view) (sym c.read.ensures.seat.0) (still_reads s.view words s.book c.requires.may c.args.i low word d refl t.view c.read.result c.read.ensures.told);
+      still = subst (λ b. MayRead words b t.view) (sym c.read.ensures.seat.0) (still_reads s.view words s.book c.requires.may c.args.i low word d refl t.view c.read.result c.read.ensures.read);
       others = λ j. record { marker = s.marker; book = c.read.ensures.seat.0 j; id = c.read.ensures.seat.1 j; view = view j };
     }
 
@@ -29,4 +29,4 @@ returns-clause-read g c = λ c' agree.
     let s = c.args.seat.now in
     let words = c.args.self.now.words.now in
     let d = c.index-self-i.result in
-    agree_now s.view words s.book c.requires.may c.args.i (omega (arith, c.requires.inside)) (get_or words (c.args.i + 1) d) d refl c.read.new.seat.view c.read.result c.read.ensures.told c' agree
+    agree_now s.view words s.book c.requires.may c.args.i (omega (arith, c.requires.inside)) (get_or words (c.args.i + 1) d) d refl c.read.new.seat.view c.read.result c.read.ensures.read c' agree

@@ -1,5 +1,5 @@
 use Rattle.std.proofs.Common.{Some, Ok, rules}
-use Rattle.live_law.specs.Known.{MadeCall}
+use Rattle.live_nodes.specs.Known.{MadeCall}
 use Rattle.live_updates.specs.Entries.{swapped}
 use Rattle.live_owners.specs.Owners.{IssuedMore, IsNew, RetiresOnly}
 use Rattle.live_owners.proofs.Steps.{only_on}

@@ -1,6 +1,6 @@
 use Rattle.std.proofs.Common.{Some, rules}
-use Rattle.live_law.specs.Known.{MadeCall}
-use Rattle.live_law.specs.Views.{ask, inserted}
+use Rattle.live_nodes.specs.Known.{MadeCall}
+use Rattle.live_nodes.specs.Views.{ask, inserted}
 use Rattle.live_owners.specs.Owners.{IssuedMore, IsNew, RetiresOnly}
 use Rattle.live_owners.proofs.Steps.{only_on}
 use Rattle.live_owners.proofs.map.LiveOwners.insert.Goals as goal

@@ -1,5 +1,5 @@
 use Rattle.std.proofs.Common.{◌^◌, true, Some, sym, subst, rules}
-use Rattle.live_law.specs.Known.{Known}
+use Rattle.live_nodes.specs.Known.{Known}
 use Rattle.live_pool.specs.Pops.{HasPopped}
 use Rattle.live_owners.proofs.map.LiveOwners.remove_first.Goals as goal
 

@@ -1,6 +1,6 @@
 use Rattle.std.proofs.Common.{◌∙◌, ap, subst}
 use mathlib.Core.List.{IsPrefix}
-use Rattle.live_slots.proofs.Logs.{prefix_trans}
+use Rattle.word_slots.proofs.Logs.{prefix_trans}
 use Rattle.live_payloads.proofs.Looked.{taken_is}
 use Rattle.live_payloads.proofs.guard.PayloadGuard.take.Goals as goal
 

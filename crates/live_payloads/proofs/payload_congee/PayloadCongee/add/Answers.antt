@@ -1,5 +1,5 @@
 use Rattle.std.proofs.Common.{◌∙◌, sym, ap, subst}
-use Rattle.live_slots.specs.Tickets.{HasIssued}
+use Rattle.word_slots.specs.Tickets.{HasIssued}
 use Rattle.live_payloads.specs.Payloads.{PayloadsKnown}
 use Rattle.live_payloads.specs.Tries.{AddsPayload}
 use Rattle.live_payloads.proofs.Looked.{issued_on}

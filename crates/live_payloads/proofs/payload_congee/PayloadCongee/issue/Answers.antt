@@ -1,5 +1,5 @@
 use Rattle.std.proofs.Common.{IfOk, sym, subst, rules}
-use Rattle.live_slots.specs.Tickets.{IsNew}
+use Rattle.word_slots.specs.Tickets.{IsNew}
 use Rattle.live_payloads.proofs.payload_congee.PayloadCongee.issue.Goals as goal
 use Rattle.live_payloads.proofs.payload_congee.PayloadCongee.issue.Goals.{in-Ok, in-Err-Busy-default, in-Err-Memory-default}
 

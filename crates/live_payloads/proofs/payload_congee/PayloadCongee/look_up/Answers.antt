@@ -1,6 +1,6 @@
 use Rattle.std.proofs.Common.{Some, rules}
-use Rattle.live_law.specs.Known.{MadeCall}
-use Rattle.live_law.specs.Views.{ask, got}
+use Rattle.live_nodes.specs.Known.{MadeCall}
+use Rattle.live_nodes.specs.Views.{ask, got}
 use Rattle.live_payloads.proofs.Looked.{vain_once}
 use Rattle.live_payloads.proofs.payload_congee.PayloadCongee.look_up.Goals as goal
 

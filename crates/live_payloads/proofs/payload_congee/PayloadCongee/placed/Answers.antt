@@ -2,7 +2,7 @@ use Rattle.std.proofs.Common.{◌≡◌, ℕ, ◌<◌, ◌∙◌, sym, subst, le
 use Rattle.std.proofs.lemmas.List.{take_all}
 use Rattle.spec_map.specs.Map.{Pairs, put}
 use Rattle.spec_map.specs.Refusal.{NeedsNode}
-use Rattle.live_slots.proofs.Logs.{prefix_self, prefix_trans}
+use Rattle.word_slots.proofs.Logs.{prefix_self, prefix_trans}
 use Rattle.live_payloads.specs.inner.Moves.{map_of, ArePlaced}
 use Rattle.live_payloads.proofs.Moving.{if_ok, if_err, has_key, is_there, keys_stay, placed_next}
 use Rattle.live_payloads.proofs.payload_congee.PayloadCongee.placed.Goals as goal

@@ -1,5 +1,5 @@
 use Rattle.std.proofs.Common.{sym, subst}
-use Rattle.live_slots.specs.Tickets.{HasIssued}
+use Rattle.word_slots.specs.Tickets.{HasIssued}
 use Rattle.live_payloads.proofs.payload_congee.PayloadCongee.try_insert.Goals as goal
 
 pub returns-in-Err-clause-back : goal.returns-in-Err-clause-back

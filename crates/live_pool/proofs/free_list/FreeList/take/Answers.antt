@@ -1,7 +1,7 @@
 use Rattle.std.proofs.Common.{ℕ, subst, ap, Option, Some, None, IfSome}
 use Rattle.std.specs.Option.{option_to_list}
 use Rattle.live_nodes.specs.Seats.{SeatView, Each}
-use Rattle.live_law.specs.Views.{View}
+use Rattle.live_nodes.specs.Views.{View}
 use Rattle.live_reads.specs.Paths.{Sights}
 use Rattle.live_pool.proofs.Lists.{each_parts}
 use Rattle.live_pool.proofs.Tellings.{keeps_more, sights_others, each_own}
@@ -17,12 +17,12 @@ mapped v u (Some n) f h = f n h
 
 pub returns-clause-seat : goal.returns-clause-seat
 returns-clause-seat c =
-    let t = c.inform.ensures.told in
+    let t = c.inform.ensures.informs in
     (c.inform.ensures.first.0, c.inform.ensures.first.1, keeps_more c.args.seat.now.view c.args.self.now.keeper.view c.inform.new.a.view t.0, ap (λ (v : SeatView View). v.client.seen) t.0)
 
 pub returns-clause-name : goal.returns-clause-name
 returns-clause-name c =
-    let t = c.inform.ensures.told in
+    let t = c.inform.ensures.informs in
     let v = c.args.seat.now.view in
     let w = c.args.self.now.keeper.view in
     let both = each_parts (Sights w) c.pop.new.self.items (option_to_list c.pop.result) (subst (Each (Sights w)) c.pop.ensures.items c.requires.free_list) in
@@ -30,7 +30,7 @@ returns-clause-name c =
 
 pub returns-clause-free_list : goal.returns-clause-free_list
 returns-clause-free_list c =
-    let t = c.inform.ensures.told in
+    let t = c.inform.ensures.informs in
     let v = c.args.seat.now.view in
     let w = c.args.self.now.keeper.view in
     let both = each_parts (Sights w) c.pop.new.self.items (option_to_list c.pop.result) (subst (Each (Sights w)) c.pop.ensures.items c.requires.free_list) in

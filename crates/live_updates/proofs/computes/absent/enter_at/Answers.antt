@@ -12,35 +12,35 @@ use Rattle.live_updates.proofs.computes.absent.enter_at.Goals.{After-update_here
 -- the leaf was tried
 module _ (g : Over) (c : After-update_here g) where
   ready : IsReady c.update_here.new.seat.view c.args.room.now
-  ready = ready_rest c.args.seat.now.view c.update_here.new.seat.view c.args.room.now c.requires.ready c.update_here.ensures.told.2
+  ready = ready_rest c.args.seat.now.view c.update_here.new.seat.view c.args.room.now c.requires.ready c.update_here.ensures.rest
 
   updated : (o : Option Missed) → c.update_here.result ≡ o → Updated g.U.Updates.update o c.args.seat.now.view c.update_here.new.seat.view
-  updated o is = subst (λ z. Updated g.U.Updates.update z c.args.seat.now.view c.update_here.new.seat.view) is c.update_here.ensures.told.3
+  updated o is = subst (λ z. Updated g.U.Updates.update z c.args.seat.now.view c.update_here.new.seat.view) is c.update_here.ensures.updated
 
 pub returns-in-None : goal.returns-in-None
 returns-in-None g c =
-    let a = (goal.at.returns-in-None g c).After-update_here in let t = c.update_here.ensures.told in
-    record { told = (t.0, t.1, ready g a, updated g a None (search rules)) }
+    let a = (goal.at.returns-in-None g c).After-update_here in let t = c.update_here.ensures in
+    record { book = t.book; id = t.id; ready = ready g a; tries = updated g a None (search rules) }
 
 pub returns-in-Some-Changed : goal.returns-in-Some-Changed
 returns-in-Some-Changed g c =
-    let a = (goal.at.returns-in-Some-Changed g c).After-update_here in let t = c.update_here.ensures.told in
-    record { told = (t.0, t.1, ready g a, updated g a (Some missed.Changed) (search rules)) }
+    let a = (goal.at.returns-in-Some-Changed g c).After-update_here in let t = c.update_here.ensures in
+    record { book = t.book; id = t.id; ready = ready g a; tries = updated g a (Some missed.Changed) (search rules) }
 
 pub returns-in-Some-Busy : goal.returns-in-Some-Busy
 returns-in-Some-Busy g c =
-    let a = (goal.at.returns-in-Some-Busy g c).After-update_here in let t = c.update_here.ensures.told in
-    record { told = (t.0, t.1, ready g a, updated g a (Some missed.Busy) (search rules)) }
+    let a = (goal.at.returns-in-Some-Busy g c).After-update_here in let t = c.update_here.ensures in
+    record { book = t.book; id = t.id; ready = ready g a; tries = updated g a (Some missed.Busy) (search rules) }
 
 pub enlarge-lacks-requires-clause-ready : goal.enlarge-lacks-requires-clause-ready
 enlarge-lacks-requires-clause-ready g c = ready g (goal.at.enlarge-lacks-requires-clause-ready g c).After-update_here
 
 pub enlarge-lacks-requires-clause-position : goal.enlarge-lacks-requires-clause-position
-enlarge-lacks-requires-clause-position g c = position_rest c.args.seat.now.view c.update_here.new.seat.view c.args.key c.args.leaf.position c.update_here.ensures.told.2 c.requires.leaf.0
+enlarge-lacks-requires-clause-position g c = position_rest c.args.seat.now.view c.update_here.new.seat.view c.args.key c.args.leaf.position c.update_here.ensures.rest c.requires.leaf.0
 
 pub returns-in-Some-Full : goal.returns-in-Some-Full
 returns-in-Some-Full g c =
-    let t = c.update_here.ensures.told in
-    let e = c.enlarge-lacks.ensures.told in
+    let t = c.update_here.ensures in
+    let e = c.enlarge-lacks.ensures in
     let same = updated g (goal.at.returns-in-Some-Full g c).After-update_here (Some missed.Full) (search rules) in
-    record { told = (e.0 ∙ t.0, e.1 ∙ t.1, e.2, c.tried_with.ensures g.U.Updates.update c.args.seat.now.view c.enlarge-lacks.new.seat.view (e.3 ∙ same)) }
+    record { book = e.book ∙ t.book; id = e.id ∙ t.id; ready = e.ready; tries = c.tried_with.ensures g.U.Updates.update c.args.seat.now.view c.enlarge-lacks.new.seat.view (e.seen ∙ same) }

@@ -1,7 +1,7 @@
 use Rattle.std.proofs.Common.{ℕ, List, ◌≡◌, ◌∙◌, subst}
 use Rattle.share_rule.specs.History.{Entry}
-use Rattle.live_law.specs.Views.{View}
-use Rattle.live_law.specs.Tree.{Answers}
+use Rattle.live_nodes.specs.Views.{View}
+use Rattle.live_nodes.specs.Tree.{Answers}
 use Rattle.live_nodes.specs.Seats.{SeatView}
 use Rattle.live_updates.specs.inner.Updates.{Update}
 use Rattle.live_updates.specs.inner.Ends.{Tries}
@@ -21,28 +21,28 @@ tries_from u Again a v w same t = t ∙ same
 tries_from u Lacks a v w same t = t ∙ same
 
 ready : (g : Over) (c : After-descend_from g) → IsReady c.descend_from.new.seat.view c.args.room.now
-ready g c = ready_kept c.args.seat.now.view c.descend_from.new.seat.view c.args.room.now c.requires.ready c.descend_from.ensures.told.2
+ready g c = ready_kept c.args.seat.now.view c.descend_from.new.seat.view c.args.room.now c.requires.ready c.descend_from.ensures.keeps
 
 pub returns-in_default : goal.returns-in_default
 returns-in_default g c =
-    let t = c.descend_from.ensures.told in
-    record { told = (t.0, t.1, ready g (goal.at.returns-in_default g c).After-descend_from, t.3) }
+    let t = c.descend_from.ensures in
+    record { book = t.book; id = t.id; ready = ready g (goal.at.returns-in_default g c).After-descend_from; tries = t.seen }
 
 pub part-requires-clause-ready : goal.part-requires-clause-ready
 part-requires-clause-ready g c = ready g (goal.at.part-requires-clause-ready g c).After-descend_from
 
 pub returns-in-Ok : goal.returns-in-Ok
 returns-in-Ok g c =
-    let t = c.descend_from.ensures.told in
-    let p = c.part.ensures.told in
-    let e = c.enter_below.ensures.told in
-    record { told = (e.0 ∙ (p.0 ∙ t.0), e.1 ∙ (p.1 ∙ t.1), e.2, tries_from g.U.Updates.update c.enter_below.result c.args.seat.now.view c.part.new.seat.view c.enter_below.new.seat.view (p.3 ∙ t.3) e.3) }
+    let t = c.descend_from.ensures in
+    let p = c.part.ensures in
+    let e = c.enter_below.ensures in
+    record { book = e.book ∙ (p.book ∙ t.book); id = e.id ∙ (p.id ∙ t.id); ready = e.ready; tries = tries_from g.U.Updates.update c.enter_below.result c.args.seat.now.view c.part.new.seat.view c.enter_below.new.seat.view (p.seen ∙ t.seen) e.tries }
 
 pub returns-in-Err : goal.returns-in-Err
 returns-in-Err g c =
-    let t = c.descend_from.ensures.told in
-    let p = c.part.ensures.told in
-    record { told = (p.0 ∙ t.0, p.1 ∙ t.1, p.2, c.tried_with.ensures g.U.Updates.update c.args.seat.now.view c.part.new.seat.view (p.3 ∙ t.3)) }
+    let t = c.descend_from.ensures in
+    let p = c.part.ensures in
+    record { book = p.book ∙ t.book; id = p.id ∙ t.id; ready = p.ready; tries = c.tried_with.ensures g.U.Updates.update c.args.seat.now.view c.part.new.seat.view (p.seen ∙ t.seen) }
 
 pub enter_below-requires-then-position-gt1-clause-ready : goal.enter_below-requires-then-position-gt1-clause-ready
 enter_below-requires-then-position-gt1-clause-ready g c = ready g (goal.at.enter_below-requires-then-position-gt1-clause-ready g c).After-descend_from

@@ -18,7 +18,7 @@ module _ (g : Over) (c : After-seek g) where
   looked = lookup_of c.args.seat.now.id c.args.key nowhere
 
   ready : IsReady c.seek.new.seat.view (record c.args.room.now { last = c.seek.new.last })
-  ready = ready_last c.seek.new.seat.view c.args.room.now c.seek.new.last (ready_kept c.args.seat.now.view c.seek.new.seat.view c.args.room.now c.requires.ready c.seek.ensures.told.2) c.seek.ensures.last
+  ready = ready_last c.seek.new.seat.view c.args.room.now c.seek.new.last (ready_kept c.args.seat.now.view c.seek.new.seat.view c.args.room.now c.requires.ready c.seek.ensures.keeps) c.seek.ensures.last
 
 -- and found
 module _ (g : Over) (c : After-update_here g) where
@@ -31,10 +31,10 @@ module _ (g : Over) (c : After-update_here g) where
   same : c.seek.new.seat.view.client.seen ≡ c.args.seat.now.view.client.seen
   same =
       let found : c.seek.result ≡ Some (sites.At c.in-Some-At.leaf c.in-Some-At.value) = search rules in
-      at_some (looked g (goal.at.After-update_here g c).After-seek) c.seek.new.seat.book c.seek.result c.in-Some-At.leaf c.in-Some-At.value c.args.seat.now.view c.seek.new.seat.view found c.seek.ensures.told.3
+      at_some (looked g (goal.at.After-update_here g c).After-seek) c.seek.new.seat.book c.seek.result c.in-Some-At.leaf c.in-Some-At.value c.args.seat.now.view c.seek.new.seat.view found c.seek.ensures.sought
 
   ready_then : IsReady c.update_here.new.seat.view (record c.args.room.now { last = c.seek.new.last })
-  ready_then = ready_rest c.seek.new.seat.view c.update_here.new.seat.view (record c.args.room.now { last = c.seek.new.last }) (ready g (goal.at.After-update_here g c).After-seek) c.update_here.ensures.told.2
+  ready_then = ready_rest c.seek.new.seat.view c.update_here.new.seat.view (record c.args.room.now { last = c.seek.new.last }) (ready g (goal.at.After-update_here g c).After-seek) c.update_here.ensures.rest
 
 pub seek-requires-clause-legal : goal.seek-requires-clause-legal
 seek-requires-clause-legal g c = always_lookup c.args.seat.now.id c.args.key
@@ -45,21 +45,21 @@ update_here-requires-clause-legal g c = always_update c.seek.new.seat.id c.args.
 pub returns-then-is_some : goal.returns-then-is_some
 returns-then-is_some g c =
     let a = (goal.at.returns-then-is_some g c).After-update_here in
-    let t = c.seek.ensures.told in
-    let e = c.update_here.ensures.told in
-    let missed = missed_same (update g a) c.update_here.result c.seek.new.seat.view c.update_here.new.seat.view (search rules) e.3 in
-    record { told = (e.0 ∙ t.0, e.1 ∙ t.1, ready_then g a, missed ∙ same g a) }
+    let t = c.seek.ensures in
+    let e = c.update_here.ensures in
+    let missed = missed_same (update g a) c.update_here.result c.seek.new.seat.view c.update_here.new.seat.view (search rules) e.updated in
+    record { book = e.book ∙ t.book; id = e.id ∙ t.id; ready = ready_then g a; stores = missed ∙ same g a }
 
 pub returns-else-is_some : goal.returns-else-is_some
 returns-else-is_some g c =
     let a = (goal.at.returns-else-is_some g c).After-update_here in
-    let t = c.seek.ensures.told in
+    let t = c.seek.ensures in
     let w = c.seek.new.seat.view in
     let u = c.update_here.new.seat.view in
-    let e = c.update_here.ensures.told in
-    let answers = updated_by (update g a) c.update_here.result w u (search rules) e.3 in
-    let by = answers_from c.seek.new.seat.id c.args.seat.now.id (λ (z : ℕ). inserted_with z c.args.key (Some c.in-Some-At.value) (new g a)) w.client.seen c.args.seat.now.view.client.seen u.client.seen t.1 (same g a) answers in
-    record { told = (e.0 ∙ t.0, e.1 ∙ t.1, ready_then g a, (new g a, by, refl)) }
+    let e = c.update_here.ensures in
+    let answers = updated_by (update g a) c.update_here.result w u (search rules) e.updated in
+    let by = answers_from c.seek.new.seat.id c.args.seat.now.id (λ (z : ℕ). inserted_with z c.args.key (Some c.in-Some-At.value) (new g a)) w.client.seen c.args.seat.now.view.client.seen u.client.seen t.id (same g a) answers in
+    record { book = e.book ∙ t.book; id = e.id ∙ t.id; ready = ready_then g a; stores = (new g a, by, refl) }
 
 pub enter-requires-clause-legal : goal.enter-requires-clause-legal
 enter-requires-clause-legal g c = always_update c.seek.new.seat.id c.args.key None c.args.number
@@ -70,5 +70,5 @@ enter-requires-clause-ready g c = ready g (goal.at.enter-requires-clause-ready g
 pub returns-in-None : goal.returns-in-None
 returns-in-None g c =
     let a = (goal.at.returns-in-None g c).After-seek in
-    let t = c.seek.ensures.told in
-    record { told = (t.0, t.1, ready g a, no_more (looked g a) c.seek.new.seat.book c.seek.result c.args.seat.now.view c.seek.new.seat.view (search rules) t.3) }
+    let t = c.seek.ensures in
+    record { book = t.book; id = t.id; ready = ready g a; stores = no_more (looked g a) c.seek.new.seat.book c.seek.result c.args.seat.now.view c.seek.new.seat.view (search rules) t.sought }

@@ -20,7 +20,7 @@ module _ (g : Over) (c : After-seek g) where
   looked = lookup_of c.args.seat.now.id c.args.key nowhere
 
   ready : IsReady c.seek.new.seat.view (record c.args.room.now { last = c.seek.new.last })
-  ready = ready_last c.seek.new.seat.view c.args.room.now c.seek.new.last (ready_kept c.args.seat.now.view c.seek.new.seat.view c.args.room.now c.requires.ready c.seek.ensures.told.2) c.seek.ensures.last
+  ready = ready_last c.seek.new.seat.view c.args.room.now c.seek.new.last (ready_kept c.args.seat.now.view c.seek.new.seat.view c.args.room.now c.requires.ready c.seek.ensures.keeps) c.seek.ensures.last
 
 -- and found,
 module _ (g : Over) (c : After-update_here g) where
@@ -30,10 +30,10 @@ module _ (g : Over) (c : After-update_here g) where
   same : c.seek.new.seat.view.client.seen ≡ c.args.seat.now.view.client.seen
   same =
       let found : c.seek.result ≡ Some (sites.At c.in-Some-At.leaf c.in-Some-At.value) = search rules in
-      at_some (looked g (goal.at.After-update_here g c).After-seek) c.seek.new.seat.book c.seek.result c.in-Some-At.leaf c.in-Some-At.value c.args.seat.now.view c.seek.new.seat.view found c.seek.ensures.told.3
+      at_some (looked g (goal.at.After-update_here g c).After-seek) c.seek.new.seat.book c.seek.result c.in-Some-At.leaf c.in-Some-At.value c.args.seat.now.view c.seek.new.seat.view found c.seek.ensures.sought
 
   ready_then : IsReady c.update_here.new.seat.view (record c.args.room.now { last = c.seek.new.last })
-  ready_then = ready_rest c.seek.new.seat.view c.update_here.new.seat.view (record c.args.room.now { last = c.seek.new.last }) (ready g (goal.at.After-update_here g c).After-seek) c.update_here.ensures.told.2
+  ready_then = ready_rest c.seek.new.seat.view c.update_here.new.seat.view (record c.args.room.now { last = c.seek.new.last }) (ready g (goal.at.After-update_here g c).After-seek) c.update_here.ensures.rest
 
   reached : Reaches (goal.F-step g) c.args.f.now c.f-new.new.self
   reached = call_on (goal.F-step g) c.args.f.now c.args.f.now c.f-new.new.self (Some c.in-Some-At.value) c.f-new.result (no_call (goal.F-step g) c.args.f.now) c.f-new.ensures
@@ -51,29 +51,38 @@ update_here-requires-clause-legal g c = always_update c.seek.new.seat.id c.args.
 pub returns-then-is_some-clause-reached : goal.returns-then-is_some-clause-reached
 returns-then-is_some-clause-reached g c = reached g (goal.at.returns-then-is_some-clause-reached g c).After-update_here
 
-pub returns-then-is_some-clause-told : goal.returns-then-is_some-clause-told
-returns-then-is_some-clause-told g c =
-    let a = (goal.at.returns-then-is_some-clause-told g c).After-update_here in
-    let t = c.seek.ensures.told in
-    let e = c.update_here.ensures.told in
-    let missed = missed_same (update g a) c.update_here.result c.seek.new.seat.view c.update_here.new.seat.view (search rules) e.3 in
-    (e.0 ∙ t.0, e.1 ∙ t.1, ready_then g a, missed ∙ same g a)
+pub returns-then-is_some-clause-ready : goal.returns-then-is_some-clause-ready
+returns-then-is_some-clause-ready g c =
+    let a = (goal.at.returns-then-is_some-clause-ready g c).After-update_here in
+    ready_then g a
+
+pub returns-then-is_some-clause-stores : goal.returns-then-is_some-clause-stores
+returns-then-is_some-clause-stores g c =
+    let a = (goal.at.returns-then-is_some-clause-stores g c).After-update_here in
+    let e = c.update_here.ensures in
+    let missed = missed_same (update g a) c.update_here.result c.seek.new.seat.view c.update_here.new.seat.view (search rules) e.updated in
+    missed ∙ same g a
 
 pub returns-else-is_some-clause-reached : goal.returns-else-is_some-clause-reached
 returns-else-is_some-clause-reached g c = reached g (goal.at.returns-else-is_some-clause-reached g c).After-update_here
 
-pub returns-else-is_some-clause-told : goal.returns-else-is_some-clause-told
-returns-else-is_some-clause-told g c =
-    let a = (goal.at.returns-else-is_some-clause-told g c).After-update_here in
-    let t = c.seek.ensures.told in
+pub returns-else-is_some-clause-ready : goal.returns-else-is_some-clause-ready
+returns-else-is_some-clause-ready g c =
+    let a = (goal.at.returns-else-is_some-clause-ready g c).After-update_here in
+    ready_then g a
+
+pub returns-else-is_some-clause-stores : goal.returns-else-is_some-clause-stores
+returns-else-is_some-clause-stores g c =
+    let a = (goal.at.returns-else-is_some-clause-stores g c).After-update_here in
+    let t = c.seek.ensures in
     let w = c.seek.new.seat.view in
     let value = Some c.in-Some-At.value in
     let new = c.f-new.result in
     let u = c.update_here.new.seat.view in
-    let e = c.update_here.ensures.told in
-    let answers = updated_by (update g a) c.update_here.result w u (search rules) e.3 in
-    let by = answers_from c.seek.new.seat.id c.args.seat.now.id (λ (z : ℕ). inserted_with z c.args.key value new) w.client.seen c.args.seat.now.view.client.seen u.client.seen t.1 (same g a) answers in
-    (e.0 ∙ t.0, e.1 ∙ t.1, ready_then g a, (new, by, last_call (goal.F-step g) c.args.f.now c.f-new.new.self value new c.f-new.ensures))
+    let e = c.update_here.ensures in
+    let answers = updated_by (update g a) c.update_here.result w u (search rules) e.updated in
+    let by = answers_from c.seek.new.seat.id c.args.seat.now.id (λ (z : ℕ). inserted_with z c.args.key value new) w.client.seen c.args.seat.now.view.client.seen u.client.seen t.id (same g a) answers in
+    (new, by, last_call (goal.F-step g) c.args.f.now c.f-new.new.self value new c.f-new.ensures)
 
 pub enter-requires-clause-legal : goal.enter-requires-clause-legal
 enter-requires-clause-legal g c = always_update c.seek.new.seat.id c.args.key None c.f-new-in-Some-Absent.result
@@ -90,8 +99,13 @@ returns-then-not-branch-clause-reached g c = reached_absent g (goal.at.returns-t
 pub returns-else-not-branch-clause-reached : goal.returns-else-not-branch-clause-reached
 returns-else-not-branch-clause-reached g c = reached_absent g (goal.at.returns-else-not-branch-clause-reached g c).After-f-new-in-Some-Absent
 
-pub returns-in-None-clause-told : goal.returns-in-None-clause-told
-returns-in-None-clause-told g c =
-    let a = (goal.at.returns-in-None-clause-told g c).After-seek in
-    let t = c.seek.ensures.told in
-    (t.0, t.1, ready g a, no_more (looked g a) c.seek.new.seat.book c.seek.result c.args.seat.now.view c.seek.new.seat.view (search rules) t.3)
+pub returns-in-None-clause-ready : goal.returns-in-None-clause-ready
+returns-in-None-clause-ready g c =
+    let a = (goal.at.returns-in-None-clause-ready g c).After-seek in
+    ready g a
+
+pub returns-in-None-clause-stores : goal.returns-in-None-clause-stores
+returns-in-None-clause-stores g c =
+    let a = (goal.at.returns-in-None-clause-stores g c).After-seek in
+    let t = c.seek.ensures in
+    no_more (looked g a) c.seek.new.seat.book c.seek.result c.args.seat.now.view c.seek.new.seat.view (search rules) t.sought

@@ -1,5 +1,5 @@
 use Rattle.std.proofs.Common.{rules, sym, subst, refl, ℕ, Option, ◌∙◌}
-use Rattle.live_law.specs.Tree.{Answers}
+use Rattle.live_nodes.specs.Tree.{Answers}
 use Rattle.live_growth.proofs.Ready.{made_call}
 use Rattle.live_updates.specs.Closures.{Reaches, EndsWithCall}
 use Rattle.live_updates.specs.ClosureEntries.{inserted_with}
@@ -29,25 +29,25 @@ returns-in-Some-clause-made g c =
     let i = c.loop.invariant in
     let v = c.loop.guard-inside.seat.view in
     let w = c.always_once.new.seat.view in
-    let t = c.always_once.ensures.told in
+    let t = c.always_once.ensures in
     let key = c.args.key in
     let before = c.in-Some.before in
-    let s = stores_done c.loop.guard-inside.seat.id key (Last g (goal.at.returns-in-Some-clause-made g c).After-always_once) c.always_once.result before v w (search rules) t.3 in (
+    let s = stores_done c.loop.guard-inside.seat.id key (Last g (goal.at.returns-in-Some-clause-made g c).After-always_once) c.always_once.result before v w (search rules) t.stores in (
       s.0,
-      made_call c.args.guard.now c.always_once.new.seat.book c.always_once.new.seat.id v.client.seen w (λ (z : ℕ). inserted_with z key before s.0) (λ z. refl) (t.0 ∙ i.book) (t.1 ∙ i.id) i.seen
-          (subst (λ (z : ℕ). Answers z (inserted_with z key before s.0) v.client.seen w.client.seen) (sym t.1) s.1),
+      made_call c.args.guard.now c.always_once.new.seat.book c.always_once.new.seat.id v.client.seen w (λ (z : ℕ). inserted_with z key before s.0) (λ z. refl) (t.book ∙ i.book) (t.id ∙ i.id) i.seen
+          (subst (λ (z : ℕ). Answers z (inserted_with z key before s.0) v.client.seen w.client.seen) (sym t.id) s.1),
       last_on (goal.F-step g) c.args.f.now c.loop.f c.always_once.new.f before s.0 i.reached s.2,
     )
 
 pub loop-preserved : goal.loop-preserved
 loop-preserved g c =
     let a = (goal.at.loop-preserved g c).After-always_once in
-    let i = c.loop.invariant in let t = c.always_once.ensures.told in
+    let i = c.loop.invariant in let t = c.always_once.ensures in
     record {
-      book = t.0 ∙ i.book;
-      id = t.1 ∙ i.id;
-      seen = stores_not c.loop.guard-inside.seat.id c.args.key (Last g a) c.always_once.result c.loop.guard-inside.seat.view c.always_once.new.seat.view (search rules) t.3 ∙ i.seen;
-      ready = t.2;
+      book = t.book ∙ i.book;
+      id = t.id ∙ i.id;
+      seen = stores_not c.loop.guard-inside.seat.id c.args.key (Last g a) c.always_once.result c.loop.guard-inside.seat.view c.always_once.new.seat.view (search rules) t.stores ∙ i.seen;
+      ready = t.ready;
       callable = c.always_once.ensures.callable;
       reached = reached g a;
     }

@@ -1,0 +1,6 @@
+use Rattle.live_payloads.specs.Payloads.{IsGuardOf}
+use Rattle.test_live_payloads.proofs.payloads.neighbours.filled.Given as goal
+
+-- the guard is one of this map
+abbrev pub invariant-loop-key : goal.invariant-loop-key
+invariant-loop-key g l = IsGuardOf l.map l.guard

@@ -1,6 +1,0 @@
-use Rattle.live_payloads.specs.Payloads.{IsGuardOf}
-use Rattle.test_live_slots.proofs.payloads.neighbours.wrong_try.Given as goal
-
--- the guard is one of this map
-abbrev pub invariant-loop-key : goal.invariant-loop-key
-invariant-loop-key l = IsGuardOf l.map l.guard
