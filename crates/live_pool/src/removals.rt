@@ -1,18 +1,29 @@
 //! Removals of many pairs, leaf by leaf.
-ghost use Rattle.std.specs.Prelude.{◌≡◌, ◌⊎◌, ◌+◌, ◌%◌, ◌<◌, ◌≤◌, true, length, take, IfSome, IfNone};
+ghost use Rattle.std.specs.Prelude.{◌≡◌, ◌⊎◌, ◌+◌, ◌%◌, ◌<◌, ◌≤◌, true, length, take, None, IfOk, IfSome, IfNone, OnErr};
 ghost use Rattle.spec_map.specs.Map.{Rises};
 ghost use Rattle.live_scans.specs.Scans.{GaveUp};
-ghost use Rattle.live_pool.specs.Removals.{HasEmptied, HasExtracted};
+ghost use Rattle.live_pool.specs.Pops.{HasPopped};
+ghost use Rattle.live_pool.specs.Removals.{HaveRemoved, HasEmptied, HasExtracted};
 ghost use Rattle.live_pool.specs.inner.Parts.{HasTakenPart, HaveHandedOn};
 
 use crate::ends::end_within;
 use crate::pool::Pool;
 use crossbeam_utils::Backoff;
-use live_growth::map::Guard;
+use live_growth::map::{Busy, Guard};
 use std::sync::Wait;
 
 /// How many pairs are removed at once: those of a leaf.
 const LEAF: usize = 256;
+
+/// How many pairs are removed at once where the caller gets their number alone.
+const FEW: usize = 64;
+
+/// Pairs that were removed, at least one: how many, and the last one's key.
+#[derive(Clone, Copy, Debug, PartialEq, Eq)]
+pub struct Removed {
+    pub count: u64,
+    pub last: u64,
+}
 
 /// How a removal of many pairs hands each of them on. A type stands for the way: it has no value, and an `F`, as a closure, is
 /// passed as it is.
@@ -84,6 +95,36 @@ fn take_part(
         return None;
     }
     Some(count)
+}
+
+/// Removes the first pairs with keys from `low` to `last`: those of one leaf, at most 64. `None` where there is none. Needs no memory.
+/// `Busy` if too many writers came in between: then no pair has changed.
+pub fn remove_some(
+    pool: &Pool,
+    guard: &mut Guard,
+    low: u64,
+    last: u64,
+) -> Result<Option<Removed>, Busy>
+    requires map { guard.old.book ≡ pool.now }
+    ensures map { guard.new.book ≡ guard.old.book }
+    ensures inside { IfOk result (λ some. IfSome some (λ r. (low ≤ r.last) × (r.last ≤ last))) }
+    ensures removed { IfOk result (λ some. IfSome some (λ r.
+        HaveRemoved low (last + 1) r.count (r.last + 1) guard.old guard.new)) }
+    ensures none { IfOk result (λ some. IfNone some
+        (HasPopped true low (last + 1) guard.old None guard.new)) }
+    ensures busy { OnErr result (GaveUp guard.old guard.new) }
+{
+    let mut page = [(0u64, 0u64); FEW];
+    let Some(count) = take_part(pool, guard, low, last, &mut page) else {
+        return Err(Busy);
+    };
+    if count == 0 {
+        return Ok(None);
+    }
+    Ok(Some(Removed {
+        count: count as u64,
+        last: page[count - 1].0,
+    }))
 }
 
 // As `take_part`. Pauses where other writers came in between, and goes on.
