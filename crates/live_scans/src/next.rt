@@ -175,6 +175,7 @@ pub fn is_still<A: Asks>(
 }
 
 /// Whether a node is still what its head says. It stays open, and so does the node above.
+#[inline(always)]
 fn arrive(
     here: Opened<'_>,
     at: Position,
@@ -200,6 +201,7 @@ fn arrive(
 }
 
 // Where to go on upwards: at the node below, if its keys come after this one, or behind its byte.
+#[inline(always)]
 fn choose_up(at: Position, byte: u8, to: u64, lower: Position) -> Option<Turn>
     requires height { (at.height ≤ 8) × (1 ≤ lower.height) × (lower.height < at.height) }
     requires to { up (at.height - 1) to ≡ 256 * up at.height at.key + byte }
@@ -258,6 +260,7 @@ fn choose_down(at: Position, byte: u8, to: u64, lower: Position) -> Option<Turn>
 }
 
 // Where to go on: at the node below, if it has this key or one behind it, or behind its byte.
+#[inline(always)]
 fn choose(at: Position, byte: u8, to: u64, lower: Position, up: bool) -> Option<Turn>
     requires height { (2 ≤ at.height) × (at.height ≤ 8) }
     requires to { levels.up (at.height - 1) to ≡ 256 * levels.up at.height at.key + byte }
