@@ -8,5 +8,4 @@ mod lent;
 mod meetings;
 mod refusals;
 mod refused;
-mod refusing;
 mod threads;
