@@ -8,4 +8,5 @@ mod lent;
 mod meetings;
 mod refusals;
 mod refused;
+mod refusing;
 mod threads;

@@ -12,6 +12,7 @@ use share_state::share::Share;
 use share_tree::direct::Direct;
 use spec_map::error::OOMError;
 use std::alloc::{AllocError, Global};
+use std::collections::BTreeMap;
 use std::marker::Brand;
 use std::sync::Wait;
 use std::sync::atomic::{AtomicU64, Ordering};
@@ -126,44 +127,11 @@ impl Tally {
     }
 }
 
-// The plain map: a list of its pairs, in no order.
-#[derive(Drop)]
-struct Plain {
-    pairs: Vec<(u64, u64)>,
-}
-
-impl Plain {
-    fn get(&self, key: u64) -> Option<u64> {
-        for pair in &self.pairs {
-            if pair.0 == key {
-                return Some(pair.1);
-            }
-        }
-        None
-    }
-
-    // Takes the pair out, if there is one, and returns its value.
-    fn remove(&mut self, key: u64) -> Option<u64> {
-        for at in 0..self.pairs.len() {
-            if self.pairs[at].0 == key {
-                return Some(self.pairs.swap_remove(at).1);
-            }
-        }
-        None
-    }
-
-    // Stores a value, and returns the previous one.
-    fn insert(&mut self, key: u64, value: u64) -> Result<Option<u64>, AllocError> {
-        let before = self.remove(key);
-        self.pairs.push((key, value))?;
-        Ok(before)
-    }
-
-    // Adds 3 to a value, and returns the previous one.
-    fn add(&mut self, key: u64) -> Result<Option<u64>, AllocError> {
-        let value = self.get(key).unwrap_or(0).wrapping_add(3);
-        self.insert(key, value)
-    }
+// Adds 3 to a value of the plain map, and returns the previous one.
+fn add_plainly(plain: &mut BTreeMap<u64, u64>, key: u64) -> Result<Option<u64>, AllocError> {
+    let before = plain.get(&key).copied();
+    plain.insert(key, before.unwrap_or(0).wrapping_add(3))?;
+    Ok(before)
 }
 
 // Whether a call is answered as the plain map answers it; `None` if it is refused, and then the plain map has no part in it.
@@ -172,7 +140,7 @@ fn answered<L: Ledger, M: Pages, R: Wait>(
     map: &Map<L, M>,
     guard: &mut Guard<'_, L, M>,
     share: &mut Share<L>,
-    plain: &mut Plain,
+    plain: &mut BTreeMap<u64, u64>,
     call: Call,
 ) -> Result<Option<bool>, AllocError>
     requires { guard.old.table ≡ map.now }
@@ -186,13 +154,13 @@ fn answered<L: Ledger, M: Pages, R: Wait>(
         Call::Add(key) => {
             let mut sum = |old: Option<u64>| -> u64 { old.unwrap_or(0).wrapping_add(3) };
             match map.compute_or_insert(rt, guard, key, &mut sum) {
-                Ok(before) => Ok(Some(plain.add(key)? == before)),
+                Ok(before) => Ok(Some(add_plainly(plain, key)? == before)),
                 Err(_) => Ok(None),
             }
         }
         Call::Remove(key) => {
             let before = map.remove_counted(rt, guard, share, &key);
-            Ok(Some(before == plain.remove(key)))
+            Ok(Some(before == plain.remove(&key)))
         }
     }
 }
@@ -202,14 +170,15 @@ fn is_same<L: Ledger, M: Pages, R: Wait>(
     rt: &R,
     map: &Map<L, M>,
     guard: &mut Guard<'_, L, M>,
-    plain: &Plain,
+    plain: &BTreeMap<u64, u64>,
     call: Call,
 ) -> bool
     requires { guard.old.table ≡ map.now }
     ensures { guard.new.table ≡ guard.old.table }
 {
     let (Call::Insert(key) | Call::Add(key) | Call::Remove(key)) = call;
-    map.get(rt, guard, &key) == plain.get(key) && map.value_count(rt) == plain.pairs.len() as u128
+    map.get(rt, guard, &key) == plain.get(&key).copied()
+        && map.value_count(rt) == plain.len() as u128
 }
 
 // Makes a call; a refused one has changed nothing.
@@ -218,7 +187,7 @@ fn make<L: Ledger, M: Pages, R: Wait>(
     map: &Map<L, M>,
     guard: &mut Guard<'_, L, M>,
     share: &mut Share<L>,
-    plain: &mut Plain,
+    plain: &mut BTreeMap<u64, u64>,
     tally: &mut Tally,
     call: Call,
 ) -> Result<(), AllocError>
@@ -243,7 +212,7 @@ fn make_all<L: Ledger, M: Pages, R: Wait>(
     rt: &R,
     map: &Map<L, M>,
     share: &mut Share<L>,
-    plain: &mut Plain,
+    plain: &mut BTreeMap<u64, u64>,
     is_granted_later: bool,
 ) -> Result<Tally, Fail> {
     let mut guard = map.pin(rt)?;
@@ -277,11 +246,9 @@ fn tally_with<L: Ledger, M: Pages + Made<u64, u64, A>, A: Allocator, R: Wait>(
     let Ok((map, mut share)) = Map::<L, M>::new(alloc, blank, allocator) else {
         return Ok(None);
     };
-    let mut plain = Plain {
-        pairs: Vec::new(alloc),
-    };
+    let mut plain = BTreeMap::new(alloc);
     let mut tally = make_all(rt, &map, &mut share, &mut plain, is_granted_later)?;
-    let pairs = plain.pairs.len() as u128;
+    let pairs = plain.len() as u128;
     tally.note(map.keys(rt, alloc)?.len() as u128 == pairs);
     match map.settle(rt, share) {
         Ok(count) => tally.note(count == pairs),

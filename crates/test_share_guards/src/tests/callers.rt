@@ -36,30 +36,6 @@ fn unpin_one<L: Ledger, R: Wait>(
     kept.swap_remove(place).unpin(rt);
 }
 
-// A caller that overwrites what the one before it stored, which it returns. Every fifth one is dropped. Beside every third
-// one another is unpinned.
-fn next_caller<'a, L: Ledger, R: Wait>(
-    rt: &R,
-    map: &'a Map<L>,
-    kept: &mut Vec<Guard<'a, L, u64, u64, Tree>>,
-    number: u64,
-) -> Result<Option<u64>, Fail> {
-    let (guard, before) = stored(rt, map, number)?;
-    if number % 5 != 0 {
-        kept.push(guard)?;
-    }
-    if number % 3 == 0 {
-        unpin_one(rt, kept, number);
-    }
-    Ok(before)
-}
-
-fn unpin_all<L: Ledger, R: Wait>(rt: &R, kept: Vec<Guard<'_, L, u64, u64, Tree>>) {
-    for guard in kept {
-        guard.unpin(rt);
-    }
-}
-
 // A thousand callers, each of which overwrites what the one before it stored. Every fifth one is dropped. Beside every
 // third one another is unpinned, in no order, and the others at the end. Returns the number of pairs, and the last value.
 fn a_thousand<L: Ledger, R: Wait>(
@@ -75,12 +51,21 @@ fn a_thousand<L: Ledger, R: Wait>(
     let mut kept = Vec::new(alloc);
     let mut expected = None;
     for number in 0..1000u64 {
-        if next_caller(rt, &map, &mut kept, number)? != expected {
+        let (guard, before) = stored(rt, &map, number)?;
+        if before != expected {
             return Err("a caller saw another value than the last one".into());
         }
         expected = Some(number);
+        if number % 5 != 0 {
+            kept.push(guard)?;
+        }
+        if number % 3 == 0 {
+            unpin_one(rt, &mut kept, number);
+        }
     }
-    unpin_all(rt, kept);
+    for guard in kept {
+        guard.unpin(rt);
+    }
     let mut last = map.pin(rt)?;
     let found = map.get(rt, &mut last, 5, &mut NoGate)?;
     last.unpin(rt);

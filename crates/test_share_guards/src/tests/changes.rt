@@ -21,11 +21,6 @@ fn env<P>(answer: Option<P>) -> Env<P> {
     }
 }
 
-// Whether a call begins.
-fn opens<P: Drop, T, M: Lent<P, T>>(map: &mut M, id: u64, op: &Op<P>) -> bool {
-    map.open(id, op).is_ok()
-}
-
 // One number stores a first value; another asks at key 1; then the first makes its second call, and the answer is used.
 fn overtaken<P: Drop, T, M: Lent<P, T>>(
     map: &mut M,
@@ -33,13 +28,12 @@ fn overtaken<P: Drop, T, M: Lent<P, T>>(
     second: &Op<P>,
     answer: P,
 ) -> Option<Outcome<P>> {
-    let (Ok(a), Ok(b)) = (map.seat(), map.seat()) else {
-        return None;
-    };
+    let a = map.seat().ok()?;
+    let b = map.seat().ok()?;
     let call = Op::ComputeIfPresent(1);
-    if !opens(map, b, first) || !opens(map, a, &call) || !opens(map, b, second) {
-        return None;
-    }
+    map.open(b, first).ok()?;
+    map.open(a, &call).ok()?;
+    map.open(b, second).ok()?;
     map.step(a, &call, env(Some(answer)));
     Some(map.step(a, &call, env(None)).outcome)
 }
@@ -49,21 +43,10 @@ fn numbers_with(alloc: Global, second: &Op<u64>) -> Option<Outcome<u64>> {
     overtaken(&mut map, &Op::Insert(1, 10), second, 20)
 }
 
-// (each function has one early exit beside what it owns, as the check expands all drops at each)
-fn owners_overtaken(
-    alloc: Global,
-    first: &Op<Arc<u64>>,
-    second: &Op<Arc<u64>>,
-    answer: Arc<u64>,
-) -> Option<Outcome<Arc<u64>>> {
-    let mut map: Direct<Arc<u64>, DefaultAllocator> = Made::made(alloc, DefaultAllocator {}).ok()?;
-    overtaken(&mut map, first, second, answer)
-}
-
 fn owners_with(alloc: Global, second: &Op<Arc<u64>>) -> Option<Outcome<Arc<u64>>> {
-    let first = owner_at(alloc, 1).ok()?;
-    let answer = Arc::new(alloc, 20).ok()?;
-    owners_overtaken(alloc, &first, second, answer)
+    let mut map: Direct<Arc<u64>, DefaultAllocator> = Made::made(alloc, DefaultAllocator {}).ok()?;
+    let first = Op::Insert(1, Arc::new(alloc, 10).ok()?);
+    overtaken(&mut map, &first, second, Arc::new(alloc, 20).ok()?)
 }
 
 fn owner_at(alloc: Global, key: u64) -> Result<Op<Arc<u64>>, OOMError> {

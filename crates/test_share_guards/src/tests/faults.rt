@@ -66,78 +66,25 @@ fn add<L: Ledger, M: Pages, R: Wait>(
     }
 }
 
-// A call that can be refused: an insertion or an addition at a key, and the value that it replaces.
-#[derive(Clone, Copy)]
-struct Store {
-    adds: bool,
-    key: u64,
-    number: u64,
-    before: Option<u64>,
-}
-
-const STORES: [Store; 4] = [
-    Store {
-        adds: false,
-        key: 1,
-        number: 10,
-        before: None,
-    },
-    Store {
-        adds: false,
-        key: 256,
-        number: 20,
-        before: None,
-    },
-    Store {
-        adds: true,
-        key: 2,
-        number: 5,
-        before: None,
-    },
-    Store {
-        adds: true,
-        key: 1,
-        number: 101,
-        before: Some(10),
-    },
-];
-
-fn make<L: Ledger, M: Pages, R: Wait>(
-    rt: &R,
-    map: &Map<L, M>,
-    guard: &mut Guard<'_, L, M>,
-    share: &mut Share<L>,
-    row: Store,
-) -> Result<Inserted, OOMError>
-    requires { guard.old.table ≡ map.now }
-    ensures { guard.new.table ≡ guard.old.table }
-{
-    if row.adds {
-        add(rt, map, guard, row.key, row.number)
-    } else {
-        insert(rt, map, guard, share, row.key, row.number)
-    }
-}
-
-// How many of the calls that can be refused were. `None` if one replaced another value.
+// Four calls that can be refused: the values that they replaced, and how many were refused.
 fn stores<L: Ledger, M: Pages, R: Wait>(
     rt: &R,
     map: &Map<L, M>,
     guard: &mut Guard<'_, L, M>,
     share: &mut Share<L>,
-) -> Result<Option<u64>, OOMError>
+) -> Result<([Option<u64>; 4], u64), OOMError>
     requires { guard.old.table ≡ map.now }
     ensures { guard.new.table ≡ guard.old.table }
 {
-    let mut all = 0u64;
-    for row in STORES {
-        let (before, refused) = make(rt, map, guard, share, row)?;
-        if before != row.before {
-            return Ok(None);
-        }
-        all = all.wrapping_add(refused);
-    }
-    Ok(Some(all))
+    let (a, once) = insert(rt, map, guard, share, 1, 10)?;
+    let (b, twice) = insert(rt, map, guard, share, 256, 20)?;
+    let (c, thrice) = add(rt, map, guard, 2, 5)?;
+    let (d, again) = add(rt, map, guard, 1, 101)?;
+    let refused = once
+        .wrapping_add(twice)
+        .wrapping_add(thrice)
+        .wrapping_add(again);
+    Ok(([a, b, c, d], refused))
 }
 
 // Calls that can't be refused, and change the values of 1, 2 and 256, which were 111, 5 and 20, to 7 and none.
@@ -194,9 +141,10 @@ fn run<L: Ledger, M: Pages, R: Wait>(
     alloc: Global,
 ) -> Result<Option<u64>, Fail> {
     let mut guard = map.pin(rt)?;
-    let Some(refused) = stores(rt, map, &mut guard, share)? else {
+    let (replaced, refused) = stores(rt, map, &mut guard, share)?;
+    if replaced != [None, None, None, Some(10)] {
         return Ok(None);
-    };
+    }
     let changes = change_well(rt, map, &mut guard, share);
     let one = has_one_pair(rt, map, &mut guard, alloc)?;
     map.unpin(rt, guard);
@@ -252,28 +200,20 @@ fn refused_by<M: Pages + Made<u64, u64, (DefaultAllocator, Plan)>, R: Wait>(
     Ok(Some(all))
 }
 
-// The first fault by which another number of calls is refused.
-fn wrong_fault<M: Pages + Made<u64, u64, (DefaultAllocator, Plan)>, R: Wait>(
-    rt: &R,
-    alloc: Global,
-    events: u64,
-) -> Result<Option<Fault>, Fail> {
-    for (fault, refused) in FAULTS {
-        if refused_by::<M, R>(rt, alloc, fault, events)? != Some(refused) {
-            return Ok(Some(fault));
-        }
-    }
-    Ok(None)
-}
-
 #[test]
 fn the_machine_answers_otherwise_once(rt: HostRuntime) -> Result<(), Fail> {
-    assert!(rt; wrong_fault::<Machine, _>(&rt, rt.alloc(), MACHINE_EVENTS)?.is_none());
+    for (fault, refused) in FAULTS {
+        let found = refused_by::<Machine, _>(&rt, rt.alloc(), fault, MACHINE_EVENTS)?;
+        assert!(rt; found == Some(refused), "{fault:?} {found:?}");
+    }
     Ok(())
 }
 
 #[test]
 fn the_tree_answers_otherwise_once(rt: HostRuntime) -> Result<(), Fail> {
-    assert!(rt; wrong_fault::<Tree, _>(&rt, rt.alloc(), TREE_EVENTS)?.is_none());
+    for (fault, refused) in FAULTS {
+        let found = refused_by::<Tree, _>(&rt, rt.alloc(), fault, TREE_EVENTS)?;
+        assert!(rt; found == Some(refused), "{fault:?} {found:?}");
+    }
     Ok(())
 }

@@ -1,4 +1,4 @@
-//! A map that answers otherwise than the map below it would, and keeps to the interface all the same.
+//! A map that answers once otherwise than the map below it would, and keeps to the interface all the same.
 //!
 //! A call's first event is kept back: the map below gets it with the second. So a call can be forgotten, refused or asked
 //! a wrong question before the map below knows of it.
@@ -25,7 +25,7 @@ use std::alloc::Global;
 use tree_walk::range_scan::RangeEntry;
 
 /// What an event answers in place of what it would.
-#[derive(Clone, Copy, PartialEq, Eq)]
+#[derive(Clone, Copy, Debug, PartialEq, Eq)]
 pub enum Fault {
     /// A first event is refused.
     NoStart,
@@ -39,8 +39,6 @@ pub enum Fault {
     Asks,
     /// The closure is asked with a value that nobody stored, and then the call is unknown.
     AsksAndForgets,
-    /// Every second number is refused, whatever the event.
-    NoNumber,
 }
 
 /// What fails, and at which of the events, counted from 1.
@@ -60,7 +58,6 @@ pub struct Faulty<M> {
     delayed: Option<Delayed>,
     plan: Plan,
     events: u64,
-    refuses: bool,
 }
 
 fn copied(op: &Op<u64>) -> Op<u64>
@@ -258,11 +255,6 @@ impl<M: Lent<u64, u64>> Lent<u64, u64> for Faulty<M> {
     }
 
     fn seat(&mut self) -> Result<u64, OOMError> {
-        let refused = self.refuses;
-        self.refuses = !refused;
-        if refused && self.plan.fault == Fault::NoNumber {
-            return Err(OOMError::new());
-        }
         let id = self.under.seat()?;
         if let Some(delayed) = &self.delayed {
             if delayed.id == id {
@@ -339,7 +331,6 @@ impl<A, M: Made<u64, u64, A>> Made<u64, u64, (A, Plan)> for Faulty<M> {
             delayed: None,
             plan,
             events: 0,
-            refuses: false,
         })
     }
 }

@@ -64,9 +64,7 @@ fn get_stuck<L: Ledger, M: Pages, R: Wait + Clock>(
     done: &AtomicBool,
     at: u64,
 ) -> Option<(bool, Option<u64>)> {
-    let Ok(mut guard) = map.pin_waiting(rt) else {
-        return None;
-    };
+    let mut guard = map.pin_waiting(rt).ok()?;
     let mut gate = Stuck {
         rt,
         done,
@@ -86,9 +84,7 @@ fn insert_stuck<L: Ledger, M: Pages, R: Wait + Clock>(
     done: &AtomicBool,
     at: u64,
 ) -> Option<(bool, Option<u64>)> {
-    let Ok(mut guard) = map.pin_waiting(rt) else {
-        return None;
-    };
+    let mut guard = map.pin_waiting(rt).ok()?;
     let mut gate = Stuck {
         rt,
         done,
@@ -118,9 +114,7 @@ fn comes_and_goes<L: Ledger, M: Pages, R: Wait>(
 
 // Does so with a hundred keys from `first` on, in turn. Whether each came and went.
 fn go_on<L: Ledger, M: Pages, R: Wait>(rt: &R, map: &Map<L, M>, first: u64) -> Option<bool> {
-    let Ok(mut guard) = map.pin_waiting(rt) else {
-        return None;
-    };
+    let mut guard = map.pin_waiting(rt).ok()?;
     let mut right = true;
     for step in 0..100u64 {
         right = right && comes_and_goes(rt, map, &mut guard, first.wrapping_add(step % 7));
@@ -141,17 +135,7 @@ fn go_on_and_report<L: Ledger, M: Pages, R: Wait>(
     right == Some(true)
 }
 
-// Stores the pairs (1, 42) and (2^40, 0).
-fn store_two<L: Ledger, M: Pages, R: Wait>(rt: &R, map: &Map<L, M>) -> Result<(), Fail> {
-    let mut guard = map.pin(rt)?;
-    for (key, value) in [(1, 42), (1 << 40, 0)] {
-        map.insert(rt, &mut guard, key, value)?;
-    }
-    map.unpin(rt, guard);
-    Ok(())
-}
-
-// A map with these two pairs.
+// A map with the pairs (1, 42) and (2^40, 0).
 fn two_pairs<L: Ledger, M: Pages + Made<u64, u64, DefaultAllocator>, R: Wait>(
     rt: &R,
     alloc: Global,
@@ -162,7 +146,10 @@ fn two_pairs<L: Ledger, M: Pages + Made<u64, u64, DefaultAllocator>, R: Wait>(
     requires whole { L.parts ≡ 2 ^ 63 + 1 }
 {
     let (map, _) = Map::<L, M>::new(alloc, blank, DefaultAllocator {})?;
-    store_two(rt, &map)?;
+    let mut guard = map.pin(rt)?;
+    map.insert(rt, &mut guard, 1, 42)?;
+    map.insert(rt, &mut guard, 1 << 40, 0)?;
+    map.unpin(rt, guard);
     Ok(map)
 }
 
@@ -221,32 +208,29 @@ fn goes_on<R: Threads + Wait + Clock + Sync>(
     Ok(found == (true, true, answer))
 }
 
-// The first of so many events after which a call is stuck and others don't go on. An insertion holds the leaf after its
-// ninth and tenth.
-fn wrong_event<R: Threads + Wait + Clock + Sync>(
-    rt: &R,
-    alloc: Global,
-    inserts: bool,
-    events: u64,
-) -> Result<Option<u64>, Fail> {
-    for at in 1..=events {
-        let first = if inserts && (at == 9 || at == 10) {
-            ANOTHER_LEAF
-        } else {
-            SAME_LEAF
-        };
-        if !goes_on(rt, alloc, Row { inserts, at, first })? {
-            return Ok(Some(at));
-        }
-    }
-    Ok(None)
-}
-
-// A get has nine events, of which it is called after eight.
+// A get has nine events, of which it is called after eight; an insertion holds the leaf after its ninth and tenth.
 #[test]
 fn others_go_on_beside_a_gate_that_does_not_return(rt: HostRuntime) -> Result<(), Fail> {
-    assert!(rt; wrong_event(&rt, rt.alloc(), false, 8)?.is_none());
-    assert!(rt; wrong_event(&rt, rt.alloc(), true, 11)?.is_none());
+    for at in 1..=8u64 {
+        let row = Row {
+            inserts: false,
+            at,
+            first: SAME_LEAF,
+        };
+        assert!(rt; goes_on(&rt, rt.alloc(), row)?, "a get at {at}");
+    }
+    for at in 1..=11u64 {
+        let row = Row {
+            inserts: true,
+            at,
+            first: if at == 9 || at == 10 {
+                ANOTHER_LEAF
+            } else {
+                SAME_LEAF
+            },
+        };
+        assert!(rt; goes_on(&rt, rt.alloc(), row)?, "an insertion at {at}");
+    }
     Ok(())
 }
 
@@ -256,9 +240,7 @@ fn compute_stuck<L: Ledger, M: Pages, R: Wait + Clock>(
     map: &Map<L, M>,
     done: &AtomicBool,
 ) -> Option<(bool, Option<u64>)> {
-    let Ok(mut guard) = map.pin_waiting(rt) else {
-        return None;
-    };
+    let mut guard = map.pin_waiting(rt).ok()?;
     let mut in_time = false;
     let mut waits = |_old: Option<u64>| -> u64 {
         in_time = is_done(rt, done);
@@ -353,12 +335,8 @@ fn left_behind<'a, L: Ledger, M: Pages, R: Wait>(
 ) -> Option<Guard<'a, L, M>>
     ensures { IfSome result (λ guard. guard.table ≡ map.now) }
 {
-    let Ok(mut guard) = map.pin_waiting(rt) else {
-        return None;
-    };
-    if map.insert(rt, &mut guard, 5, 50).is_err() {
-        return None;
-    }
+    let mut guard = map.pin_waiting(rt).ok()?;
+    map.insert(rt, &mut guard, 5, 50).ok()?;
     Some(guard)
 }
 

@@ -2,9 +2,8 @@
 
 ghost use Rattle.std.specs.Prelude.{◌≡◌, ◌+◌, ◌^◌, [], IfOk};
 
-use super::threads::is_handed_over;
 use node_table::allocator::DefaultAllocator;
-use share_guards::raw::{Guard, Raw};
+use share_guards::raw::Raw;
 use share_holds::gate::NoGate;
 use share_state::purse::OwnPurse;
 use share_state::state::LockedState;
@@ -31,24 +30,6 @@ pub(crate) fn made<L: Ledger>(alloc: Global, blank: Blank) -> Result<Map<L>, OOM
 }
 
 // One guard stores a value at 1, another at 2. They meet, and each sees what the other stored.
-fn seen_by_both<L: Ledger, R: Wait>(
-    rt: &R,
-    map: &Map<L>,
-    a: &mut Guard<'_, L, u64, u64, Tree>,
-    b: &mut Guard<'_, L, u64, u64, Tree>,
-) -> Result<[Option<u64>; 5], Fail>
-    requires first { a.old.table ≡ map.now }
-    requires second { b.old.table ≡ map.now }
-{
-    let first = map.insert(rt, a, 1, 10, &mut OwnPurse, &mut NoGate)?;
-    let second = map.insert(rt, b, 2, 20, &mut OwnPurse, &mut NoGate)?;
-    a.meet(b);
-    let found = map.get(rt, a, 2, &mut NoGate)?;
-    let removed = map.remove_always(rt, b, 1, &mut OwnPurse, &mut NoGate);
-    let gone = map.get(rt, a, 1, &mut NoGate)?;
-    Ok([first, second, found, removed, gone])
-}
-
 fn two_that_meet<L: Ledger, R: Wait>(
     rt: &R,
     alloc: Global,
@@ -61,10 +42,15 @@ fn two_that_meet<L: Ledger, R: Wait>(
     let map = made::<L>(alloc, blank)?;
     let mut a = map.pin(rt)?;
     let mut b = map.pin(rt)?;
-    let found = seen_by_both(rt, &map, &mut a, &mut b)?;
+    let first = map.insert(rt, &mut a, 1, 10, &mut OwnPurse, &mut NoGate)?;
+    let second = map.insert(rt, &mut b, 2, 20, &mut OwnPurse, &mut NoGate)?;
+    a.meet(&mut b);
+    let found = map.get(rt, &mut a, 2, &mut NoGate)?;
+    let removed = map.remove_always(rt, &mut b, 1, &mut OwnPurse, &mut NoGate);
+    let gone = map.get(rt, &mut a, 1, &mut NoGate)?;
     a.unpin(rt);
     b.unpin(rt);
-    Ok(found)
+    Ok([first, second, found, removed, gone])
 }
 
 #[test]
@@ -74,53 +60,42 @@ fn guards_that_meet(rt: HostRuntime) -> Result<(), Fail> {
     Ok(())
 }
 
-// Whether a guard that has stored a value hands it to another one, which it meets.
-fn met_and_found<L: Ledger, R: Wait>(rt: &R, map: &Map<L>) -> bool {
-    let Ok(mut a) = map.pin(rt) else {
-        return false;
-    };
-    let Ok(mut b) = map.pin(rt) else {
-        return false;
-    };
-    is_handed_over(rt, map, &mut a, &mut b, 3)
+// A guard stores a value at 3, and another one, which it meets, finds it.
+fn met_and_found<L: Ledger, R: Wait>(rt: &R, map: &Map<L>) -> Option<u64> {
+    let mut a = map.pin(rt).ok()?;
+    let mut b = map.pin(rt).ok()?;
+    map.insert(rt, &mut a, 3, 30, &mut OwnPurse, &mut NoGate)
+        .ok()?;
+    a.meet(&mut b);
+    map.get(rt, &mut b, 3, &mut NoGate).ok()?
 }
 
-// They do so in the closure of a third guard's call, between two of its holds. Returns whether they did, and what the call
+// They do so in the closure of a third guard's call, between two of its holds. Returns what was found, and what the call
 // has stored.
-fn met_in_its_call<L: Ledger, R: Wait>(
-    rt: &R,
-    map: &Map<L>,
-    guard: &mut Guard<'_, L, u64, u64, Tree>,
-) -> Result<(bool, Option<u64>), Fail>
-    requires { guard.old.table ≡ map.now }
-{
-    let mut found = false;
-    let mut meets = |_old: Option<u64>| -> u64 {
-        found = met_and_found(rt, map);
-        40
-    };
-    map.compute_or_insert(rt, guard, 4, 0, &mut meets)?;
-    let stored = map.get(rt, guard, 4, &mut NoGate)?;
-    Ok((found, stored))
-}
-
 fn met_in_a_call<L: Ledger, R: Wait>(
     rt: &R,
     alloc: Global,
     blank: Blank,
-) -> Result<(bool, Option<u64>), Fail>
+) -> Result<(Option<u64>, Option<u64>), Fail>
     requires name { blank.name ≡ L.name }
     requires parts { blank.parts ≡ L.parts }
     requires whole { L.parts ≡ 2 ^ 63 + 1 }
 {
     let map = made::<L>(alloc, blank)?;
     let mut guard = map.pin(rt)?;
-    met_in_its_call(rt, &map, &mut guard)
+    let mut found = None;
+    let mut meets = |_old: Option<u64>| -> u64 {
+        found = met_and_found(rt, &map);
+        40
+    };
+    map.compute_or_insert(rt, &mut guard, 4, 0, &mut meets)?;
+    let stored = map.get(rt, &mut guard, 4, &mut NoGate)?;
+    Ok((found, stored))
 }
 
 #[test]
 fn guards_meet_in_the_middle_of_a_call(rt: HostRuntime) -> Result<(), Fail> {
     let found = met_in_a_call::<Brand, _>(&rt, rt.alloc(), Blank::new((1 << 63) + 1))?;
-    assert!(rt; found == (true, Some(40)));
+    assert!(rt; found == (Some(30), Some(40)));
     Ok(())
 }

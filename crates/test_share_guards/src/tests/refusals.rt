@@ -2,8 +2,8 @@
 
 ghost use Rattle.std.specs.Prelude.{◌≡◌, ◌+◌, ◌^◌};
 
-use super::faulty::{Fault, Faulty, Plan};
 use super::meetings::Tree;
+use super::refusing::Refusing;
 use node_table::allocator::DefaultAllocator;
 use share_guards::pin::PinError;
 use share_guards::raw::{Guard, Raw};
@@ -16,7 +16,7 @@ use std::sync::Wait;
 use std::sync::ledger::{Blank, Ledger};
 use std::test::Fail;
 
-type Refused = Faulty<Tree>;
+type Refused = Refusing<Tree>;
 
 type Map<L> = Raw<L, u64, u64, Refused>;
 
@@ -45,20 +45,6 @@ fn found_by<L: Ledger, R: Wait>(
 
 // A guard stores a value, and two further ones are refused. The value is still there, for this guard and for one that
 // is then given.
-fn refused_beside<L: Ledger, R: Wait>(
-    rt: &R,
-    map: &Map<L>,
-    guard: &mut Guard<'_, L, u64, u64, Refused>,
-) -> Result<(bool, Option<u64>, Option<u64>), Fail>
-    requires { guard.old.table ≡ map.now }
-{
-    map.insert(rt, guard, 1, 10, &mut OwnPurse, &mut NoGate)?;
-    let refused = both_refuse(rt, map)?;
-    let found = map.get(rt, guard, 1, &mut NoGate)?;
-    let by_another = found_by(rt, map, guard)?;
-    Ok((refused, found, by_another))
-}
-
 fn refused_twice<L: Ledger, R: Wait>(
     rt: &R,
     alloc: Global,
@@ -68,15 +54,14 @@ fn refused_twice<L: Ledger, R: Wait>(
     requires parts { blank.parts ≡ L.parts }
     requires whole { L.parts ≡ 2 ^ 63 + 1 }
 {
-    let plan = Plan {
-        fault: Fault::NoNumber,
-        at: 0,
-    };
-    let budget = (DefaultAllocator {}, plan);
-    let (state, _) = LockedState::<L, u64, u64, Refused>::new(alloc, budget, blank)?;
+    let (state, _) = LockedState::<L, u64, u64, Refused>::new(alloc, DefaultAllocator {}, blank)?;
     let map = Raw::new(alloc, state)?;
     let mut guard = map.pin(rt)?;
-    refused_beside(rt, &map, &mut guard)
+    map.insert(rt, &mut guard, 1, 10, &mut OwnPurse, &mut NoGate)?;
+    let refused = both_refuse(rt, &map)?;
+    let found = map.get(rt, &mut guard, 1, &mut NoGate)?;
+    let by_another = found_by(rt, &map, &mut guard)?;
+    Ok((refused, found, by_another))
 }
 
 #[test]

@@ -89,44 +89,7 @@ fn count_up<L: Ledger, M: Pages, R: Wait>(
     }
 }
 
-// A call that stores at a key.
-#[derive(Clone, Copy)]
-enum Fill {
-    Insert(u64),
-    InsertCounted(u64),
-    CountUp(u64),
-}
-
-// Calls that make a leaf, split its prefix, let it grow, and begin a new one, and the values that they replace.
-const FILLS: [(Fill, Option<u64>); 8] = [
-    (Fill::Insert(1), None),
-    (Fill::Insert(256), None),
-    (Fill::InsertCounted(2), None),
-    (Fill::CountUp(3), None),
-    (Fill::CountUp(1), Some(1)),
-    (Fill::Insert(4), None),
-    (Fill::InsertCounted(5), None),
-    (Fill::Insert(1 << 40), None),
-];
-
-fn make<L: Ledger, M: Pages, R: Wait>(
-    rt: &R,
-    map: &Numbers<L, M>,
-    guard: &mut Guard<'_, L, M>,
-    share: &mut Share<L>,
-    call: Fill,
-) -> Result<Option<u64>, OOMError>
-    requires { guard.old.table ≡ map.now }
-    ensures { guard.new.table ≡ guard.old.table }
-{
-    match call {
-        Fill::Insert(key) => insert(rt, map, guard, key),
-        Fill::InsertCounted(key) => insert_counted(rt, map, guard, share, key),
-        Fill::CountUp(key) => count_up(rt, map, guard, key),
-    }
-}
-
-// Whether each of these calls replaces what it should.
+// Insertions that make a leaf, split its prefix, let it grow, and begin a new one.
 fn fills<L: Ledger, M: Pages, R: Wait>(
     rt: &R,
     map: &Numbers<L, M>,
@@ -136,12 +99,16 @@ fn fills<L: Ledger, M: Pages, R: Wait>(
     requires { guard.old.table ≡ map.now }
     ensures { guard.new.table ≡ guard.old.table }
 {
-    for (call, before) in FILLS {
-        if make(rt, map, guard, share, call)? != before {
-            return Ok(false);
-        }
-    }
-    Ok(true)
+    Ok(
+        insert(rt, map, guard, 1)? == None
+            && insert(rt, map, guard, 256)? == None
+            && insert_counted(rt, map, guard, share, 2)? == None
+            && count_up(rt, map, guard, 3)? == None
+            && count_up(rt, map, guard, 1)? == Some(1)
+            && insert(rt, map, guard, 4)? == None
+            && insert_counted(rt, map, guard, share, 5)? == None
+            && insert(rt, map, guard, 1 << 40)? == None,
+    )
 }
 
 // Calls that have no refusal.
@@ -201,19 +168,6 @@ fn is_met<L: Ledger, M: Pages, R: Wait>(
     Ok(found == Some(2))
 }
 
-// Whether each call by a guard is right, whichever one of its requests is refused.
-fn guard_is_right<L: Ledger, M: Pages, R: Wait>(
-    rt: &R,
-    map: &Numbers<L, M>,
-    share: &mut Share<L>,
-) -> Result<bool, OOMError> {
-    let mut guard = pinned(rt, map)?;
-    let stored = fills(rt, map, &mut guard, share)? && is_met(rt, map, &mut guard)?;
-    let changed = changes(rt, map, &mut guard, share);
-    map.unpin(rt, guard);
-    Ok(stored && changed)
-}
-
 // Whether each call of a map is right, whichever one of its requests is refused; `None` if there is no map.
 fn numbers_are_right<L: Ledger, M: Pages + Made<u64, u64, DefaultAllocator>, R: Wait>(
     rt: &R,
@@ -227,13 +181,17 @@ fn numbers_are_right<L: Ledger, M: Pages + Made<u64, u64, DefaultAllocator>, R: 
     let Ok((map, mut share)) = Numbers::<L, M>::new(alloc, blank, DefaultAllocator {}) else {
         return Ok(None);
     };
-    let right = guard_is_right(rt, &map, &mut share)?;
+    let mut guard = pinned(rt, &map)?;
+    let filled = fills(rt, &map, &mut guard, &mut share)?;
+    let met = is_met(rt, &map, &mut guard)?;
+    let changed = changes(rt, &map, &mut guard, &mut share);
+    map.unpin(rt, guard);
     let told = read(rt, &map, alloc)?;
     let settled = match map.settle(rt, share) {
         Ok(count) => count == 3,
         Err(_) => false,
     };
-    Ok(Some(right && told && settled))
+    Ok(Some(filled && met && changed && told && settled))
 }
 
 // What `numbers_are_right` returns, which is called once more where there was no map.
@@ -260,6 +218,19 @@ fn each_call_over_the_machine(rt: HostRuntime) -> Result<(), Fail> {
 fn each_call_over_the_tree(rt: HostRuntime) -> Result<(), Fail> {
     assert!(rt; right_over::<Tree, _>(&rt, rt.alloc())? == Some(true));
     Ok(())
+}
+
+// A guard of a map of owners, likewise.
+fn pinned_owner<'a, L: Ledger, M: Owners<u64>, R: Wait>(
+    rt: &R,
+    map: &'a Owned<L, M>,
+) -> Result<OwnerGuard<'a, L, u64, M>, OOMError>
+    ensures { IfOk result (λ guard. guard.table ≡ map.now) }
+{
+    match map.pin(rt) {
+        Ok(guard) => Ok(guard),
+        Err(_) => map.pin_waiting(rt),
+    }
 }
 
 // A counted insertion of one more owner; the value that it replaced.
@@ -323,72 +294,6 @@ fn take_owners<L: Ledger, M: Owners<u64>, R: Wait>(
     Ok(computed.is_some() && removed.is_some())
 }
 
-// Keys at which an owner is inserted one after another, and the values that this replaces.
-const OWNED: [(u64, Option<u64>); 4] = [(1, None), (256, None), (2, None), (1, Some(5))];
-
-// Whether each of these insertions replaces what it should.
-fn fills_with_owners<L: Ledger, M: Owners<u64>, R: Wait>(
-    rt: &R,
-    map: &Owned<L, M>,
-    guard: &mut OwnerGuard<'_, L, u64, M>,
-    share: &mut Share<L>,
-    owner: &Arc<u64>,
-) -> Result<bool, OOMError>
-    requires { guard.old.table ≡ map.now }
-    ensures { guard.new.table ≡ guard.old.table }
-{
-    for (key, before) in OWNED {
-        if insert_owner(rt, map, guard, share, key, owner)? != before {
-            return Ok(false);
-        }
-    }
-    Ok(true)
-}
-
-// Whether an owner is found, is taken out, and then isn't found.
-fn owner_goes<L: Ledger, M: Owners<u64>, R: Wait>(
-    rt: &R,
-    map: &Owned<L, M>,
-    guard: &mut OwnerGuard<'_, L, u64, M>,
-    share: &mut Share<L>,
-) -> Result<bool, OOMError>
-    requires { guard.old.table ≡ map.now }
-    ensures { guard.new.table ≡ guard.old.table }
-{
-    let found = owner_at(rt, map, guard, 256)? == Some(5);
-    let taken = take_owners(rt, map, guard, share)?;
-    Ok(found && taken && owner_at(rt, map, guard, 256)? == None)
-}
-
-// Whether each call by this guard is right, whichever one of its requests is refused.
-fn is_right_by<L: Ledger, M: Owners<u64>, R: Wait>(
-    rt: &R,
-    map: &Owned<L, M>,
-    mut guard: OwnerGuard<'_, L, u64, M>,
-    share: &mut Share<L>,
-    owner: &Arc<u64>,
-) -> Result<bool, OOMError>
-    requires { guard.table ≡ map.now }
-{
-    let right = fills_with_owners(rt, map, &mut guard, share, owner)?
-        && owner_goes(rt, map, &mut guard, share)?;
-    map.unpin(rt, guard);
-    Ok(right)
-}
-
-// Whether it is so by a guard of the first of both calls, or of the second where that refuses.
-fn owner_guard_is_right<L: Ledger, M: Owners<u64>, R: Wait>(
-    rt: &R,
-    map: &Owned<L, M>,
-    share: &mut Share<L>,
-    owner: &Arc<u64>,
-) -> Result<bool, OOMError> {
-    match map.pin(rt) {
-        Ok(guard) => is_right_by(rt, map, guard, share, owner),
-        Err(_) => is_right_by(rt, map, map.pin_waiting(rt)?, share, owner),
-    }
-}
-
 // Whether each call of a map of owners is right, whichever one of its requests is refused. `None` if there is no map.
 fn owners_are_right<L: Ledger, M: Owners<u64> + Made<Arc<u64>, u64, DefaultAllocator>, R: Wait>(
     rt: &R,
@@ -403,12 +308,20 @@ fn owners_are_right<L: Ledger, M: Owners<u64> + Made<Arc<u64>, u64, DefaultAlloc
     let Ok((map, mut share)) = Owned::<L, M>::new(alloc, blank) else {
         return Ok(None);
     };
-    let right = owner_guard_is_right(rt, &map, &mut share, owner)?;
+    let mut guard = pinned_owner(rt, &map)?;
+    let filled = insert_owner(rt, &map, &mut guard, &mut share, 1, owner)? == None
+        && insert_owner(rt, &map, &mut guard, &mut share, 256, owner)? == None
+        && insert_owner(rt, &map, &mut guard, &mut share, 2, owner)? == None
+        && insert_owner(rt, &map, &mut guard, &mut share, 1, owner)? == Some(5);
+    let found = owner_at(rt, &map, &mut guard, 256)? == Some(5);
+    let taken = take_owners(rt, &map, &mut guard, &mut share)?;
+    let gone = owner_at(rt, &map, &mut guard, 256)? == None;
+    map.unpin(rt, guard);
     let settled = match map.settle(rt, share) {
         Ok(count) => count == 1,
         Err(_) => false,
     };
-    Ok(Some(right && settled))
+    Ok(Some(filled && found && taken && gone && settled))
 }
 
 fn made_owner(alloc: Global) -> Result<Arc<u64>, OOMError> {

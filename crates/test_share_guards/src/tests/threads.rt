@@ -129,8 +129,8 @@ fn two_threads_fill_a_map(rt: HostRuntime) -> Result<(), Fail> {
     Ok(())
 }
 
-/// Stores a key by the first guard, and after they meet reads it by the second.
-pub(super) fn is_handed_over<L: Ledger, R: Wait>(
+// Stores a key by the first guard, and after they meet reads it by the second.
+fn is_handed_over<L: Ledger, R: Wait>(
     rt: &R,
     map: &Map<L>,
     first: &mut Guard<'_, L, u64, u64, Tree>,
