@@ -30,8 +30,8 @@
  * congee_live_floor, congee_live_below and ranges downwards.
  *
  * A pop is in the history by the beginning of each search, and by the removal of the pair that the last search found.
- * If another handle removed or changed a found pair first, a comparison that failed is in the history. The pairs of a
- * removed range are in the history as by a pop each, keys ascending.
+ * If another handle removed or changed a found pair first, a comparison that failed is in the history. Each pair
+ * of a removed range is in the history as by a pop, keys ascending.
  *
  * congee_live_compute and calls of many pairs make several of the library's calls. Each of those is in the history by
  * itself, and calls of other handles come in between. What such a function does by them is tested, and no theorem
@@ -908,10 +908,10 @@ static inline size_t congee_live_insert_many(struct congee_live *map, const stru
     return done;
 }
 
-/* Removes the pairs with start <= key <= last, keys ascending. Returns how many pairs this call removed. Each pair is in
- * the history as by a pop of the first pair behind the one before. Each key of the range that is present when the call
- * begins is removed meanwhile, by this call or by another handle. A key that another handle inserts meanwhile may stay.
- * While writers lock or change nodes on the way, the call yields and tries again. The call is never out of memory. */
+/* Removes the pairs with start <= key <= last. Returns how many pairs this call removed. Each pair is in the history as
+ * by a pop, keys ascending. Each key of the range that is present when the call begins is removed meanwhile, by this
+ * call or by another handle. A key that another handle inserts meanwhile may stay. While writers lock or change nodes
+ * on the way, the call yields and tries again. The call is never out of memory. */
 static inline uint64_t congee_live_remove_range_inclusive(struct congee_live *map, uint64_t start, uint64_t last) {
     struct congee_live_handle handle = {map};
     uint64_t removed = 0, count = 0, reached = 0;
@@ -954,10 +954,10 @@ static inline uint64_t congee_live_retain(struct congee_live *map, congee_predic
     return removed;
 }
 
-/* Removes all pairs, keys ascending. Each pair is in the history as by a pop of the first pair behind the one before.
- * Each key that is present when the call begins is removed meanwhile, by this call or by another handle. A key that
- * another handle inserts meanwhile may stay. While writers lock or change nodes on the way, the call yields and tries
- * again. The call is never out of memory. The map keeps its segments. */
+/* Removes all pairs. Each pair is in the history as by a pop, keys ascending. Each key that is present when the call
+ * begins is removed meanwhile, by this call or by another handle. A key that another handle inserts meanwhile may stay.
+ * While writers lock or change nodes on the way, the call yields and tries again. The call is never out of memory. The
+ * map keeps its segments. */
 static inline void congee_live_clear(struct congee_live *map) {
     congee_live_remove_range_inclusive(map, 0, UINT64_MAX);
 }

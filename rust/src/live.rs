@@ -1482,10 +1482,10 @@ impl LiveGuard {
         Values { of: self.iter() }
     }
 
-    /// Removes the pairs whose keys are within the bounds, keys ascending. Returns how many pairs this call removed. Each
-    /// pair is in the history as by a pop of the first pair behind the one before. Each key that is present when the call
-    /// begins is removed meanwhile, by this call or by another. A key that another call inserts meanwhile may stay. While
-    /// writers lock or change nodes on the way, the call yields and tries again. Never out of memory.
+    /// Removes the pairs whose keys are within the bounds. Returns how many pairs this call removed. Each pair is in the
+    /// history as by a pop, keys ascending. Each key that is present when the call begins is removed meanwhile, by this call
+    /// or by another. A key that another call inserts meanwhile may stay. While writers lock or change nodes on the way,
+    /// the call yields and tries again. Never out of memory.
     ///
     /// ```
     /// # fn main() -> Result<(), Box<dyn std::error::Error>> {
@@ -1561,10 +1561,10 @@ impl LiveGuard {
         loops::retain(self, keep);
     }
 
-    /// Removes all pairs, keys ascending. Each pair is in the history as by a pop of the first pair behind the one before.
-    /// Each key that is present when the call begins is removed meanwhile, by this call or by another. A key that another
-    /// call inserts meanwhile may stay. While writers lock or change nodes on the way, the call yields and tries again.
-    /// Never out of memory. The map keeps its segments.
+    /// Removes all pairs. Each pair is in the history as by a pop, keys ascending. Each key that is present when the call
+    /// begins is removed meanwhile, by this call or by another. A key that another call inserts meanwhile may stay. While
+    /// writers lock or change nodes on the way, the call yields and tries again. Never out of memory. The map keeps its
+    /// segments.
     ///
     /// ```
     /// # fn main() -> Result<(), Box<dyn std::error::Error>> {

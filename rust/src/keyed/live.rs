@@ -684,10 +684,10 @@ impl<K: Word, V: Word> OrdLiveGuard<K, V> {
         self.guard.pop_last_from(key.into_u64()).map(pair)
     }
 
-    /// Removes the pairs whose keys are within the bounds, keys ascending. Returns how many pairs this call removed. Each
-    /// pair is in the history as by a pop of the first pair behind the one before. Each key that is present when the call
-    /// begins is removed meanwhile, by this call or by another. A key that another call inserts meanwhile may stay. While
-    /// writers lock or change nodes on the way, the call yields and tries again. Never out of memory.
+    /// Removes the pairs whose keys are within the bounds. Returns how many pairs this call removed. Each pair is in the
+    /// history as by a pop, keys ascending. Each key that is present when the call begins is removed meanwhile, by this call
+    /// or by another. A key that another call inserts meanwhile may stay. While writers lock or change nodes on the way,
+    /// the call yields and tries again. Never out of memory.
     ///
     /// ```
     /// use proved_congee::keyed::OrdLiveMap;
@@ -727,10 +727,10 @@ impl<K: Word, V: Word> OrdLiveGuard<K, V> {
             .retain(|key, value| keep(K::from_u64(key), V::from_u64(value)));
     }
 
-    /// Removes all pairs, keys ascending. Each pair is in the history as by a pop of the first pair behind the one before.
-    /// Each key that is present when the call begins is removed meanwhile, by this call or by another. A key that another
-    /// call inserts meanwhile may stay. While writers lock or change nodes on the way, the call yields and tries again.
-    /// Never out of memory. The map keeps its segments.
+    /// Removes all pairs. Each pair is in the history as by a pop, keys ascending. Each key that is present when the call
+    /// begins is removed meanwhile, by this call or by another. A key that another call inserts meanwhile may stay. While
+    /// writers lock or change nodes on the way, the call yields and tries again. Never out of memory. The map keeps its
+    /// segments.
     ///
     /// ```
     /// use proved_congee::keyed::OrdLiveMap;
