@@ -498,6 +498,7 @@ struct live_calls {
     static constexpr auto pop_last = congee_live_pop_last;
     static constexpr auto pop_first_to = congee_live_pop_first_to;
     static constexpr auto pop_last_from = congee_live_pop_last_from;
+    static constexpr auto remove_range_inclusive = congee_live_remove_range_inclusive;
     static constexpr auto clear = congee_live_clear;
     static constexpr auto is_empty = congee_live_is_empty;
     static constexpr auto count = congee_live_count;
@@ -534,6 +535,7 @@ struct shared_calls {
     static constexpr auto pop_last = congee_shared_pop_last;
     static constexpr auto pop_first_to = congee_shared_pop_first_to;
     static constexpr auto pop_last_from = congee_shared_pop_last_from;
+    static constexpr auto remove_range_inclusive = congee_shared_remove_range_inclusive;
     static constexpr auto clear = congee_shared_clear;
     static constexpr auto is_empty = congee_shared_is_empty;
     static constexpr auto count = congee_shared_count;
@@ -688,12 +690,10 @@ public:
         congee_pair at = {0, 0};
         return pair_if(C::pop_last_from(map_, key, &at), at);
     }
-    /* Removes the keys from first to last, one by one, and returns how many this call removed. Calls of other threads come in
-     * between. */
+    /* Removes the keys from first to last, and returns how many this call removed. Calls of other threads come in between
+     * (congee_live_remove_range_inclusive, congee_shared_remove_range_inclusive). */
     std::uint64_t erase_range(std::uint64_t first, std::uint64_t last) {
-        std::uint64_t removed = 0;
-        each(first, last, [&](std::uint64_t key, std::uint64_t) { removed += erase(key); });
-        return removed;
+        return C::remove_range_inclusive(map_, first, last);
     }
     /* Calls the function with the key and the value of each pair, keys ascending, and removes the pairs for which the function
      * returns false, one by one. If another thread changes the value in between, the function is called again with the new
@@ -708,7 +708,7 @@ public:
         });
         return removed;
     }
-    /* Removes all pairs: of a shared map at one moment, and of a live map one by one. */
+    /* Removes all pairs: of a shared map at one moment, and of a live map as erase_range. */
     void clear() { C::clear(map_); }
     /* Calls the function with the key and the value of each pair from first to last, keys ascending. The call reads pages
      * of 256 pairs, and calls of other threads come in between. */

@@ -175,6 +175,8 @@ int32_t congee_c_live_below(struct congee_const_live_handle *handle, uint64_t ke
 int32_t congee_c_live_last(struct congee_const_live_handle *handle, struct congee_pair *pair);
 int32_t congee_c_live_pop_first_to(struct congee_live_handle *handle, uint64_t key, struct congee_pair *pair);
 int32_t congee_c_live_pop_last_from(struct congee_live_handle *handle, uint64_t key, struct congee_pair *pair);
+int32_t congee_c_live_remove_some(struct congee_live_handle *handle, uint64_t start, uint64_t last, uint64_t *count,
+                                  uint64_t *reached);
 int32_t congee_c_live_count(struct congee_const_live_handle *handle, uint64_t *out);
 
 /* Maps of owners. */

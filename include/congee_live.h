@@ -30,7 +30,8 @@
  * congee_live_floor, congee_live_below and ranges downwards.
  *
  * A pop is in the history by the beginning of each search, and by the removal of the pair that the last search found.
- * If another handle removed or changed a found pair first, a comparison that failed is in the history.
+ * If another handle removed or changed a found pair first, a comparison that failed is in the history. Each pair
+ * of a removed range is in the history as by a pop, keys ascending.
  *
  * congee_live_compute and calls of many pairs make several of the library's calls. Each of those is in the history by
  * itself, and calls of other handles come in between. What such a function does by them is tested, and no theorem
@@ -50,7 +51,7 @@
  *   - congee_live_pop_first searches the pair, and then removes it. No key that was present throughout the call is
  *     less, but a lesser key may have been inserted meanwhile. congee_shared_pop_first removes the least key of one
  *     moment.
- *   - congee_live_clear removes the pairs one by one, and has no form with `try`.
+ *   - congee_live_clear isn't of one moment, and has no form with `try`.
  *   - congee_shared_charged becomes congee_live_charged, which counts segments of nodes.
  *
  * What a program owes, beside the rules of congee.h on places, buffers, stack and malloc. Nothing checks these rules:
@@ -907,21 +908,23 @@ static inline size_t congee_live_insert_many(struct congee_live *map, const stru
     return done;
 }
 
-/* Removes the pairs with start <= key <= last, one by one, keys ascending, each at a moment of its own. Returns how
- * many pairs this call removed. Each key of the range that is present when the call begins is removed meanwhile, by
- * this call or by another handle. A key that another handle inserts meanwhile may stay. While writers lock or change
- * nodes on the way, the call yields and tries again. The call is never out of memory. Reads pages of 64 pairs, and
- * calls congee_live_remove for each key. */
+/* Removes the pairs with start <= key <= last. Returns how many pairs this call removed. Each pair is in the history as
+ * by a pop, keys ascending. Each key of the range that is present when the call begins is removed meanwhile, by this
+ * call or by another handle. A key that another handle inserts meanwhile may stay. While writers lock or change nodes
+ * on the way, the call yields and tries again. The call is never out of memory. */
 static inline uint64_t congee_live_remove_range_inclusive(struct congee_live *map, uint64_t start, uint64_t last) {
-    struct congee_pair page[64] = {{0, 0}};
-    uint64_t removed = 0;
-    size_t n;
-    while ((n = congee_live_range_inclusive(map, start, last, page, 64)) > 0) {
-        for (size_t i = 0; i < n; i++)
-            removed += (uint64_t)congee_live_remove(map, page[i].key, NULL);
-        if (n < 64 || page[63].key == last)
+    struct congee_live_handle handle = {map};
+    uint64_t removed = 0, count = 0, reached = 0;
+    int code;
+    while ((code = congee_c_live_remove_some(&handle, start, last, &count, &reached)) != CONGEE_ABSENT) {
+        if (code == CONGEE_BUSY) {
+            CONGEE_YIELD();
+            continue;
+        }
+        removed += count;
+        if (reached == last)
             break;
-        start = page[63].key + 1;
+        start = reached + 1;
     }
     return removed;
 }
@@ -951,7 +954,7 @@ static inline uint64_t congee_live_retain(struct congee_live *map, congee_predic
     return removed;
 }
 
-/* Removes all pairs, one by one, keys ascending, each at a moment of its own. Each key that is present when the call
+/* Removes all pairs. Each pair is in the history as by a pop, keys ascending. Each key that is present when the call
  * begins is removed meanwhile, by this call or by another handle. A key that another handle inserts meanwhile may stay.
  * While writers lock or change nodes on the way, the call yields and tries again. The call is never out of memory. The
  * map keeps its segments. */

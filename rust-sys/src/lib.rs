@@ -419,6 +419,13 @@ extern "C" {
     pub fn congee_c_live_last(handle: *mut LiveHandle, pair: *mut Pair) -> i32;
     pub fn congee_c_live_pop_first_to(handle: *mut LiveHandle, key: u64, pair: *mut Pair) -> i32;
     pub fn congee_c_live_pop_last_from(handle: *mut LiveHandle, key: u64, pair: *mut Pair) -> i32;
+    pub fn congee_c_live_remove_some(
+        handle: *mut LiveHandle,
+        start: u64,
+        last: u64,
+        count: *mut u64,
+        reached: *mut u64,
+    ) -> i32;
     pub fn congee_c_live_count(handle: *mut LiveHandle, out: *mut u64) -> i32;
     pub fn congee_c_live_owners_new(limit: u64, out: *mut LiveOwnersHandle) -> i32;
     pub fn congee_c_live_owners_another(

@@ -3,7 +3,7 @@
 use crate::loops;
 use crate::map::{as_length, if_expected, ExtendError};
 use crate::owner::Owner;
-use crate::pages::{Keys, Range, Values};
+use crate::pages::{ends, Keys, Range, Values};
 use crate::shared::{if_made, next_map, unless_busy, waiting, waiting_for_memory, Busy, TryError};
 use crate::sys::*;
 use crate::{Map, OutOfMemory, Pair};
@@ -21,8 +21,8 @@ use std::ops::RangeBounds;
 /// or hand over a [note](LiveGuard::note), are in order of time from then on. A call also comes after all calls that had
 /// ended before, by whatever guard. For guards that never met, only tests show that. Ranges, next pairs and counts are in
 /// the history by their beginning alone: each key has its value at a moment after that. A pop is in the history by the
-/// beginning of each search, and by the removal of the found pair. This wrapper is tested, as are iterators and calls with
-/// closures, which make several calls of the library.
+/// beginning of each search, and by the removal of the found pair. Each pair of a removed range is in the history as by a
+/// pop. This wrapper is tested, as are iterators and calls with closures, which make several calls of the library.
 ///
 /// ```
 /// use proved_congee::LiveMap;
@@ -1482,8 +1482,8 @@ impl LiveGuard {
         Values { of: self.iter() }
     }
 
-    /// Removes the pairs whose keys are within the bounds, one by one, keys ascending, each at a moment of its own. Returns
-    /// how many pairs this call removed. Each key that is present when the call begins is removed meanwhile, by this call
+    /// Removes the pairs whose keys are within the bounds. Returns how many pairs this call removed. Each pair is in the
+    /// history as by a pop, keys ascending. Each key that is present when the call begins is removed meanwhile, by this call
     /// or by another. A key that another call inserts meanwhile may stay. While writers lock or change nodes on the way,
     /// the call yields and tries again. Never out of memory.
     ///
@@ -1497,7 +1497,28 @@ impl LiveGuard {
     /// ```
     #[doc(alias = "drain")]
     pub fn remove_range(&self, bounds: impl RangeBounds<u64>) -> u64 {
-        loops::remove_range(self, bounds)
+        let Some((mut start, last)) = ends(bounds) else {
+            return 0;
+        };
+        let mut removed = 0;
+        while let Some((count, reached)) = waiting(|| self.try_remove_some(start, last)) {
+            removed += count;
+            if reached == last {
+                break;
+            }
+            start = reached + 1;
+        }
+        removed
+    }
+
+    // Removes the first pairs with `start <= key <= last`: those of one leaf, at most 64. Returns how many, and the last one's
+    // key.
+    fn try_remove_some(&self, start: u64, last: u64) -> Result<Option<(u64, u64)>, Busy> {
+        let (mut count, mut reached) = (0, 0);
+        let code = unsafe {
+            congee_c_live_remove_some(&mut self.handle(), start, last, &mut count, &mut reached)
+        };
+        unless_busy(code, |code| (code == 1).then_some((count, reached)))
     }
 
     /// Copies the pairs into a map of their own, without a limit. The copy is of no single moment: each key is read at a
@@ -1540,7 +1561,7 @@ impl LiveGuard {
         loops::retain(self, keep);
     }
 
-    /// Removes all pairs, one by one, keys ascending, each at a moment of its own. Each key that is present when the call
+    /// Removes all pairs. Each pair is in the history as by a pop, keys ascending. Each key that is present when the call
     /// begins is removed meanwhile, by this call or by another. A key that another call inserts meanwhile may stay. While
     /// writers lock or change nodes on the way, the call yields and tries again. Never out of memory. The map keeps its
     /// segments.

@@ -382,6 +382,41 @@ static const struct loop {
     {7, 5, 0, 0},          {UINT64_MAX, UINT64_MAX, 6, 1}, {0, 4, 0, 0}, {0, UINT64_MAX - 1, 0, 6},
 };
 
+/* Removals of ranges of the keys below 600, of 1000, and of the greatest key: 256 keys are in each of the first two leaves, and 64
+ * are removed at once. How many are removed. */
+static const struct removal {
+    uint64_t start, last, removed;
+} removals[] = {
+    /* within a leaf, and a whole leaf */
+    {10, 19, 10}, {255, 255, 1}, {256, 511, 256},
+    /* over several leaves, and over a leaf without a key of the range behind it */
+    {250, 261, 12}, {250, 520, 271}, {599, 999, 1},
+    /* at once, one more, and several times */
+    {0, 63, 64}, {0, 64, 65}, {10, 137, 128}, {3, 202, 200},
+    /* up to the greatest key */
+    {590, UINT64_MAX, 12}, {1001, UINT64_MAX, 1}, {UINT64_MAX, UINT64_MAX, 1}, {0, UINT64_MAX, 602}, {0, UINT64_MAX - 1, 601},
+    /* none: of no keys, and whose end is before its start */
+    {600, 999, 0}, {1001, UINT64_MAX - 1, 0}, {20, 19, 0}, {300, 5, 0}, {UINT64_MAX, 0, 0},
+};
+
+static void call_removals(struct congee_live *map) {
+    struct congee_pair pairs[602];
+    for (uint64_t i = 0; i < 602; i++)
+        pairs[i].key = pairs[i].value = i < 600 ? i : i == 600 ? 1000 : UINT64_MAX;
+    for (size_t i = 0; i < sizeof removals / sizeof *removals; i++) {
+        const struct removal *it = &removals[i];
+        need(congee_live_insert_many(map, pairs, 602) == 602, "the keys of leaves");
+        need(congee_live_remove_range_inclusive(map, it->start, it->last) == it->removed, "how many pairs of leaves are removed");
+        call_counts(map, 602 - it->removed);
+        for (size_t key = 0; key < 602; key++)
+            need(congee_live_get(map, pairs[key].key, NULL) == (pairs[key].key < it->start || pairs[key].key > it->last),
+                 "which pairs of leaves are removed");
+    }
+    congee_live_clear(map);
+    call_counts(map, 0);
+    need(congee_live_remove_range_inclusive(map, 0, UINT64_MAX) == 0, "a removal of no pairs");
+}
+
 static void call_loops(struct congee_live *map) {
     for (size_t i = 0; i < sizeof loops / sizeof *loops; i++) {
         const struct loop *loop = &loops[i];
@@ -397,13 +432,7 @@ static void call_loops(struct congee_live *map) {
     }
     congee_live_clear(map);
     call_counts(map, 0);
-    /* more than a page, with the last key full pages end with */
-    for (uint64_t i = 0; i < 200; i++)
-        need(congee_live_insert(map, i < 199 ? i : UINT64_MAX, i, NULL) == CONGEE_ABSENT, "a key of some pages");
-    need(congee_live_remove_range_inclusive(map, 10, 137) == 128, "two full pages");
-    call_counts(map, 72);
-    congee_live_clear(map);
-    call_counts(map, 0);
+    call_removals(map);
 }
 
 /* What a function is called with by congee_live_compute, and what it answers. */

@@ -40,10 +40,17 @@ static int32_t late_get_or_insert(struct congee_live_handle *map, uint64_t key, 
     return congee_c_live_get_or_insert(map, key, value, found);
 }
 
+static int32_t late_remove_some(struct congee_live_handle *map, uint64_t start, uint64_t last, uint64_t *count,
+                                uint64_t *reached) {
+    pause_now_and_then();
+    return congee_c_live_remove_some(map, start, last, count, reached);
+}
+
 #define congee_c_live_remove late_remove
 #define congee_c_live_compare_remove late_compare_remove
 #define congee_c_live_compare_exchange late_compare_exchange
 #define congee_c_live_get_or_insert late_get_or_insert
+#define congee_c_live_remove_some late_remove_some
 #include "congee.h"
 #include <inttypes.h>
 #include <pthread.h>

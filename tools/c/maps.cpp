@@ -436,6 +436,21 @@ template <class M> static void in_threads(M counts) {
     CHECK(counts.empty() && !counts.pop_first() && !counts.pop_last());
 }
 
+// Ranges that begin at 3, and their rests up to the greatest key. 256 of the keys below 600 are in each of the first two leaves of a
+// live map, and 64 are erased at once.
+template <class M> static void erased_by_hand(M map) {
+    for (std::uint64_t last : {19, 63, 64, 66, 67, 261, 520}) {
+        for (std::uint64_t key = 0; key < 600; key++)
+            map.insert_or_assign(key, key);
+        map.insert_or_assign(UINT64_MAX, 1);
+        CHECK(map.erase_range(last, last - 1) == 0 && map.erase_range(3, last) == last - 2 && map.size() == 603 - last);
+        CHECK(map.contains(2) && !map.contains(3) && !map.contains(last) && map.contains(last + 1));
+        CHECK(map.erase_range(last, UINT64_MAX) == 600 - last && map.size() == 3);
+        map.clear();
+        CHECK(map.empty() && map.erase_range(0, UINT64_MAX) == 0);
+    }
+}
+
 // Threads erase one range at once: each pair counts for one of them.
 template <class M> static void erased_in_threads(M map) {
     std::atomic<std::uint64_t> erased{0}, waiting{4};
@@ -497,6 +512,8 @@ int main() {
     CHECK(shared_map().charged() == 2104 && shared_map::sharded().charged() == 64 * 2104);
     in_threads(shared_map());
     in_threads(shared_map::sharded());
+    erased_by_hand(live_map());
+    erased_by_hand(shared_map());
     erased_in_threads(live_map());
     erased_in_threads(shared_map());
     pops_in_threads(live_map(), live_map());

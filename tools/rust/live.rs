@@ -5,6 +5,7 @@
 
 use proved_congee::{Busy, LiveGuard, LiveMap, OutOfMemory, Pair, TryError};
 use std::collections::BTreeMap;
+use std::ops::{Bound, RangeBounds};
 use std::sync::atomic::{AtomicBool, AtomicU64, Ordering};
 use std::thread;
 
@@ -618,6 +619,52 @@ fn meddled() -> Result<(), OutOfMemory> {
     Ok(())
 }
 
+/// Removes the pairs within the bounds from the keys below 600, 1000 and the greatest one. 256 keys are in each of the first two
+/// leaves, and 64 are removed at once. Then compares how many were removed, and which.
+fn removed(
+    guard: &LiveGuard,
+    bounds: impl RangeBounds<u64> + Clone,
+    wanted: u64,
+) -> Result<(), OutOfMemory> {
+    let keys = || (0..600).chain([1000, u64::MAX]);
+    assert!(guard.extend(keys().map(|key| (key, key))).is_ok());
+    assert_eq!(guard.remove_range(bounds.clone()), wanted);
+    assert_eq!(guard.len() as u64, 602 - wanted);
+    assert!(guard.keys().eq(keys().filter(|key| !bounds.contains(key))));
+    Ok(())
+}
+
+/// Removals of ranges, by each kind of bounds.
+fn removals() -> Result<(), OutOfMemory> {
+    let guard = &LiveMap::new()?.pin()?;
+    // (within a leaf, a whole leaf, over several)
+    removed(guard, 10..20, 10)?;
+    removed(guard, 255..=255, 1)?;
+    removed(guard, 256..512, 256)?;
+    removed(guard, 250..=261, 12)?;
+    // (64 at once, one more, and several times)
+    removed(guard, ..64, 64)?;
+    removed(guard, ..=64, 65)?;
+    removed(guard, 3..=202, 200)?;
+    // (up to the greatest key)
+    removed(guard, 590.., 12)?;
+    removed(guard, u64::MAX.., 1)?;
+    removed(guard, ..u64::MAX, 601)?;
+    removed(guard, .., 602)?;
+    removed(guard, (Bound::Excluded(590), Bound::Unbounded), 11)?;
+    removed(guard, (Bound::Excluded(9), Bound::Excluded(12)), 2)?;
+    // (none)
+    removed(guard, 600..1000, 0)?;
+    removed(guard, 20..20, 0)?;
+    removed(guard, ..0, 0)?;
+    removed(guard, (Bound::Excluded(u64::MAX), Bound::Unbounded), 0)?;
+    removed(guard, (Bound::Excluded(9), Bound::Excluded(10)), 0)?;
+    removed(guard, (Bound::Included(300), Bound::Included(5)), 0)?;
+    guard.clear();
+    assert_eq!((guard.len(), guard.remove_range(..)), (0, 0));
+    Ok(())
+}
+
 /// Four threads remove one range at once: each pair counts for one of them.
 fn each_counts_for_one() -> Result<(), OutOfMemory> {
     let map = LiveMap::new()?;
@@ -648,6 +695,7 @@ fn main() -> Result<(), OutOfMemory> {
         tried(&LiveMap::new()?.pin()?);
         beside_btree()?;
     }
+    removals()?;
     by_threads()?;
     each_pair_to_one()?;
     computes()?;

@@ -223,6 +223,20 @@ uint64_t remove_range(Pairs &p, uint64_t start, uint64_t last) {
     return n - p.size();
 }
 
+// (a leaf has the keys that differ in the last byte alone)
+int remove_some(Pairs &p, uint64_t start, uint64_t last, uint64_t *count, uint64_t *reached) {
+    auto at = p.lower_bound(start);
+    if (at == p.end() || at->first > last)
+        return 0;
+    uint64_t leaf = at->first / 256, removed = 0;
+    for (; removed < 64 && at != p.end() && at->first <= last && at->first / 256 == leaf; removed++) {
+        *reached = at->first;
+        at = p.erase(at);
+    }
+    *count = removed;
+    return 1;
+}
+
 uint64_t charged(const Pairs &p) { return 2104 + 16 * p.size(); }
 
 } // namespace
@@ -388,6 +402,9 @@ int32_t congee_c_shared_pop_first(congee_shared_handle *h, AT) { SHARED(h, pop_f
 int32_t congee_c_shared_pop_last(congee_shared_handle *h, AT) { SHARED(h, pop_last(p, out)) }
 int32_t congee_c_live_pop_first_to(congee_live_handle *h, TWO(KEY, AT)) { SHARED(h, pop_first_to(p, key, out)) }
 int32_t congee_c_live_pop_last_from(congee_live_handle *h, TWO(KEY, AT)) { SHARED(h, pop_last_from(p, key, out)) }
+int32_t congee_c_live_remove_some(congee_live_handle *h, uint64_t start, uint64_t last, uint64_t *count, uint64_t *reached) {
+    SHARED(h, remove_some(p, start, last, count, reached))
+}
 int32_t congee_c_shared_clear(congee_shared_handle *h) { SHARED(h, (p.clear(), 0)) }
 int32_t congee_c_shared_is_empty(congee_const_shared_handle *h, OUT) { SHARED(h, (*out = p.empty(), 0)) }
 int32_t congee_c_shared_usage(congee_const_shared_handle *h, uint64_t *bytes, uint64_t *limit) {

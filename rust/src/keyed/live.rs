@@ -684,8 +684,8 @@ impl<K: Word, V: Word> OrdLiveGuard<K, V> {
         self.guard.pop_last_from(key.into_u64()).map(pair)
     }
 
-    /// Removes the pairs whose keys are within the bounds, one by one, keys ascending, each at a moment of its own. Returns
-    /// how many pairs this call removed. Each key that is present when the call begins is removed meanwhile, by this call
+    /// Removes the pairs whose keys are within the bounds. Returns how many pairs this call removed. Each pair is in the
+    /// history as by a pop, keys ascending. Each key that is present when the call begins is removed meanwhile, by this call
     /// or by another. A key that another call inserts meanwhile may stay. While writers lock or change nodes on the way,
     /// the call yields and tries again. Never out of memory.
     ///
@@ -727,7 +727,7 @@ impl<K: Word, V: Word> OrdLiveGuard<K, V> {
             .retain(|key, value| keep(K::from_u64(key), V::from_u64(value)));
     }
 
-    /// Removes all pairs, one by one, keys ascending, each at a moment of its own. Each key that is present when the call
+    /// Removes all pairs. Each pair is in the history as by a pop, keys ascending. Each key that is present when the call
     /// begins is removed meanwhile, by this call or by another. A key that another call inserts meanwhile may stay. While
     /// writers lock or change nodes on the way, the call yields and tries again. Never out of memory. The map keeps its
     /// segments.
